@@ -1,0 +1,10 @@
+-- `bitset::checked::contains` meets its contract.
+use borrow.Author.Needs.{needs}
+use Rattle.bitset.proofs.Single.{contained-answer}
+use Rattle.bitset.proofs.checked.contains.Statement.{statement}
+use Rattle.bitset.proofs.checked.contains.Tie as tie
+
+pub contains-spec : {M : Type 1} → statement M
+contains-spec = tie.close (tie.spec (λ c κs. search needs) (λ c κs. search needs) (λ c κs. search needs)
+    (λ c. contained-answer _ (c .before .before .before .before .pre) (c .before .before .contains .ensures)
+    (c .before .truth .ensures) (c .answer .ensures)))
