@@ -8,7 +8,7 @@ extern "C" {
     fn words_xor_in(words: *mut u64, n: usize, a: *const u64, m: usize);
     fn words_xor_in_and(words: *mut u64, n: usize, a: *const u64, m: usize, b: *const u64, k: usize);
     fn words_xor_in_xor(words: *mut u64, n: usize, a: *const u64, m: usize, b: *const u64, k: usize);
-    fn words_zero_from(words: *const u64, n: usize, place: usize) -> bool;
+    fn words_all_zero(words: *const u64, n: usize) -> bool;
     fn words_count_all(words: *const u64, n: usize) -> usize;
     fn words_exact_span(words: *const u64, n: usize) -> usize;
     fn words_and_count(a: *const u64, n: usize, b: *const u64, m: usize) -> usize;
@@ -93,12 +93,12 @@ fn main() {
             &mut || black_box(&mut y).iter_mut().zip(black_box(&a).iter().zip(black_box(&b))).for_each(|(w, (u, v))| *w ^= u ^ v),
         );
 
-        assert!(unsafe { words_zero_from(zeros.as_ptr(), n, 0) } && !unsafe { words_zero_from(a.as_ptr(), n, 0) });
+        assert!(unsafe { words_all_zero(zeros.as_ptr(), n) } && !unsafe { words_all_zero(a.as_ptr(), n) });
         side_by_side(
             "zero_from, all 0",
             n,
             &mut || {
-                black_box(unsafe { words_zero_from(black_box(&zeros).as_ptr(), n, 0) });
+                black_box(unsafe { words_all_zero(black_box(&zeros).as_ptr(), n) });
             },
             &mut || {
                 black_box(black_box(&zeros).iter().all(|&w| w == 0));
