@@ -1,6 +1,6 @@
 //! Three of the source's AdaptiveIndexSets, their modes seen through the reader of the test copy.
 
-use super::{Source, beside};
+use super::{Source, common};
 use crate::format::{Call, Mode, Operation, SETS, Storage};
 use pecos_core::IndexSet;
 use pecos_core::adaptive_index_set::AdaptiveIndexSet;
@@ -16,38 +16,12 @@ pub struct AdaptiveIndexSets {
 
 impl AdaptiveIndexSets {
     fn make(&mut self, call: &Call) -> u64 {
-        let Call { set, a, b, .. } = *call;
-        let index = call.number as usize;
+        if let Some(value) = common(&mut self.sets, call) {
+            return value;
+        }
         match call.operation {
-            Operation::New => self.sets[set] = AdaptiveIndexSet::new(),
-            Operation::Insert => return self.sets[set].insert(index).into(),
-            Operation::Remove => return self.sets[set].remove(index).into(),
-            Operation::Toggle => self.sets[set].toggle(index),
-            Operation::Contains => return self.sets[set].contains(index).into(),
-            Operation::Len | Operation::Dump => return self.sets[set].len() as u64,
-            Operation::IsEmpty => return self.sets[set].is_empty().into(),
-            Operation::Clear => self.sets[set].clear(),
-            Operation::Xor => beside(&mut self.sets, set, |target, sets| {
-                target.xor_assign(&sets[a]);
-            }),
-            Operation::IntersectionCount => {
-                return self.sets[set].intersection_count(&self.sets[a]) as u64;
-            }
-            Operation::XorIntersectionInto => beside(&mut self.sets, set, |target, sets| {
-                sets[a].xor_intersection_into(&sets[b], target);
-            }),
-            Operation::XorSymmetricDifferenceInto => beside(&mut self.sets, set, |target, sets| {
-                sets[a].xor_symmetric_difference_into(&sets[b], target);
-            }),
-            Operation::Equality
-            | Operation::Push
-            | Operation::XorAssignSlice
-            | Operation::XorIntersectionSlice
-            | Operation::IntersectionCountSlice
-            | Operation::TakeClearing
-            | Operation::SetSingle => {
-                panic!("{} is no call of the adaptive set that document 01 ports", call.operation.name())
-            }
+            Operation::Toggle => self.sets[call.set].toggle(call.number as usize),
+            other => panic!("{} is no call of the adaptive set that document 01 ports", other.name()),
         }
         0
     }

@@ -1,8 +1,7 @@
 //! Three of the source's BitSets, and the list that its slice forms take.
 
-use super::{Source, beside};
+use super::{Source, beside, common};
 use crate::format::{Call, Operation, SETS, Storage};
-use pecos_core::IndexSet;
 use pecos_core::bitset::BitSet;
 use std::mem;
 
@@ -14,29 +13,13 @@ pub struct BitSets {
 
 impl Source for BitSets {
     fn serve(&mut self, call: &Call) -> u64 {
-        let Call { set, a, b, .. } = *call;
+        if let Some(value) = common(&mut self.sets, call) {
+            return value;
+        }
+        let Call { set, a, .. } = *call;
         let index = call.number as usize;
         match call.operation {
-            Operation::New => self.sets[set] = BitSet::new(),
-            Operation::Insert => return self.sets[set].insert(index).into(),
-            Operation::Remove => return self.sets[set].remove(index).into(),
             Operation::Toggle => return self.sets[set].toggle(index).into(),
-            Operation::Contains => return self.sets[set].contains(index).into(),
-            Operation::Len | Operation::Dump => return self.sets[set].len() as u64,
-            Operation::IsEmpty => return self.sets[set].is_empty().into(),
-            Operation::Clear => self.sets[set].clear(),
-            Operation::Xor => beside(&mut self.sets, set, |target, sets| {
-                target.symmetric_difference_update(&sets[a]);
-            }),
-            Operation::IntersectionCount => {
-                return self.sets[set].intersection_count(&self.sets[a]) as u64;
-            }
-            Operation::XorIntersectionInto => beside(&mut self.sets, set, |target, sets| {
-                sets[a].xor_intersection_into(&sets[b], target);
-            }),
-            Operation::XorSymmetricDifferenceInto => beside(&mut self.sets, set, |target, sets| {
-                sets[a].xor_symmetric_difference_into(&sets[b], target);
-            }),
             Operation::Equality => return (self.sets[set] == self.sets[a]).into(),
             Operation::Push => self.list.push(index),
             Operation::XorAssignSlice => {
@@ -52,9 +35,7 @@ impl Source for BitSets {
                 let list = mem::take(&mut self.list);
                 return self.sets[set].intersection_count_slice(&list) as u64;
             }
-            Operation::TakeClearing | Operation::SetSingle => {
-                panic!("{} is no call of BitSet that document 01 ports", call.operation.name())
-            }
+            other => panic!("{} is no call of BitSet that document 01 ports", other.name()),
         }
         0
     }

@@ -9,6 +9,7 @@ pub use bitset::BitSets;
 pub use sorted_vec_set::SortedVecSets;
 
 use crate::format::{Call, Line, Operation, SETS, Storage, answer};
+use pecos_core::IndexSet;
 use std::mem;
 
 pub trait Source: Default {
@@ -31,6 +32,32 @@ fn beside<T: Default>(sets: &mut [T; SETS], target: usize, change: impl FnOnce(&
     let mut set = mem::take(&mut sets[target]);
     change(&mut set, sets);
     sets[target] = set;
+}
+
+/// The calls that all three types have under the trait's names, which lead to the types' own methods. `toggle` is not among
+/// them: BitSet's own answers what the trait drops.
+fn common<T: IndexSet + Default>(sets: &mut [T; SETS], call: &Call) -> Option<u64> {
+    let Call { set, a, b, .. } = *call;
+    let index = call.number as usize;
+    match call.operation {
+        Operation::New => sets[set] = T::new(),
+        Operation::Insert => return Some(sets[set].insert(index).into()),
+        Operation::Remove => return Some(sets[set].remove(index).into()),
+        Operation::Contains => return Some(sets[set].contains(index).into()),
+        Operation::Len | Operation::Dump => return Some(sets[set].len() as u64),
+        Operation::IsEmpty => return Some(sets[set].is_empty().into()),
+        Operation::Clear => sets[set].clear(),
+        Operation::Xor => beside(sets, set, |target, sets| target.xor_assign(&sets[a])),
+        Operation::IntersectionCount => return Some(sets[set].intersection_count(&sets[a]) as u64),
+        Operation::XorIntersectionInto => beside(sets, set, |target, sets| {
+            sets[a].xor_intersection_into(&sets[b], target);
+        }),
+        Operation::XorSymmetricDifferenceInto => beside(sets, set, |target, sets| {
+            sets[a].xor_symmetric_difference_into(&sets[b], target);
+        }),
+        _ => return None,
+    }
+    Some(0)
 }
 
 /// The answers that the source gives to the text of a history file, or the line that does not read.
