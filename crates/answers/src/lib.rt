@@ -1,4 +1,6 @@
 // What every call answers: a number of document 01's table, and a value.
+pub mod give;
+pub mod judge;
 
 // Served, and the refusals of document 01.
 pub const SERVED: u8 = 0;
