@@ -1,21 +1,20 @@
 -- What the calls on several sound sets leave and answer, path by path. Assumes nothing.
-use mathlib.Core.Path.{_≡_, refl, sym, ap, ap₂, _∙_}
-use mathlib.Core.Bool.{true, false}
-use mathlib.Core.List.{List, [], _∷_}
-use Prim.Native.Nat.{ℕ, suc, _^_, _≤_, _<_, max}
+use mathlib.Core.Path.{_≡_, refl, ap, ap₂, _∙_}
+use mathlib.Core.List.{List}
+use Prim.Native.Nat.{ℕ, _^_, _≤_, _<_, max}
 use native.Mathlib.Omega.{arith}
 use lib.Dec.{eqb}
 use lib.ListN.{length, getD, take}
 use borrow.Author.Tests.{eq-eqb, ne-eqb}
-use Rattle.words.specs.Sets.{From, difference, intersection}
+use Rattle.words.specs.Sets.{difference, intersection}
 use Rattle.words.specs.Words.{members, count, exact, xors, ands, into}
-use Rattle.words.proofs.SetLaws.{by-merging}
+use Rattle.words.proofs.SetLaws.{same-difference}
 use Rattle.words.proofs.RowLaws.{length-into, words-of, words-take, words-xors}
 use Rattle.words.proofs.MemberLaws.{ascending-members, members-xors, members-ands, members-into, members-front, exact-empty}
 use Rattle.answers.specs.declared.Answer.{Answer}
 use Rattle.bitset.specs.declared.BitSet.{BitSet}
 use Rattle.bitset.specs.declared.Reply.{Reply}
-use Rattle.bitset.specs.Rules.{State, xored, same, equal}
+use Rattle.bitset.specs.Rules.{State, xored, equal}
 use Rattle.bitset.specs.Calls.{truth, result, countingShared, comparing, view, bytesOf, left, Sound}
 use Rattle.bitset.proofs.Outcomes.{two-none, served-left, served-answer}
 
@@ -51,29 +50,6 @@ pub shared-answer : {set other : BitSet} {ws os : List ℕ} {value : ℕ} {r : A
     → r ≡ countingShared (bytesOf set ws) (bytesOf other os)
 unfolding countingShared count bytesOf
 shared-answer h a q = served-answer (two-none h) (a ∙ ap length (shared-members (h .0) (h .1))) q
-
--- two ascending lists are the same exactly when no element is of one of them only
-same-difference : (b : ℕ) (l r : List ℕ) → From b l → From b r → eqb (length (difference l r)) 0 ≡ same l r
-unfolding same From
-same-difference =
-    by-merging (λ b l r m. eqb (length (m true true false)) 0 ≡ same l r) (λ b r g. none r)
-    (λ b x l r m h f g ih. some (m true true false) ∙ sym (on-left x l r g)) (λ b x l r m h f g ih. some (m true true false) ∙ sym (on-right x l r f))
-    (λ b x l r m h f g ih. rw (eq-eqb x x refl) ih)
-  where
-    some : (l : List ℕ) → eqb (suc (length l)) 0 ≡ false
-    some l = ne-eqb (suc (length l)) 0 (λ e. omega arith)
-
-    none : (r : List ℕ) → eqb (length r) 0 ≡ same [] r
-    none [] = refl
-    none (y ∷ r) = some r
-
-    on-left : (x : ℕ) (l r : List ℕ) → From (suc x) r → same (x ∷ l) r ≡ false
-    on-left x l [] g = refl
-    on-left x l (y ∷ r) g = rw (ne-eqb x y (λ e. omega arith))
-
-    on-right : (x : ℕ) (l r : List ℕ) → From (suc x) l → same l (x ∷ r) ≡ false
-    on-right x [] r f = refl
-    on-right x (y ∷ l) r f = rw (ne-eqb y x (λ e. omega arith))
 
 -- other spans are unequal
 pub unequal-answer : {set other : BitSet} {ws os : List ℕ} {r : Answer} → Sound set ws × Sound other os → (set .span ≡ other .span → ⊥)

@@ -1,11 +1,11 @@
 -- BitSet as document 01 has it: a state is a span and members below 64 times it. "Insert and toggle extend the span; so do
 -- the XORs, to the operand's span, to the smaller (fused intersection) or larger (fused symmetric difference) of two, or to
 -- each index flipped (slice forms)." Assumes nothing.
-use mathlib.Core.Bool.{Bool, true, false, _&&_}
+use mathlib.Core.Bool.{Bool, _&&_}
 use mathlib.Core.List.{List, [], _∷_}
 use Prim.Native.Nat.{ℕ, _+_, _*_, _/_, _≤_, min, max}
 use lib.Dec.{eqb}
-use Rattle.words.specs.Sets.{keep, Ascending, Below, insert, remove, toggle, difference, intersection}
+use Rattle.words.specs.Sets.{keep, Ascending, Below, same, insert, remove, toggle, difference, intersection}
 
 pub record State : Type 0 where
   pub span : ℕ
@@ -58,13 +58,6 @@ flipped (i ∷ l) s = flipped l (toggled i s)
 unfoldable pub entries : (ℕ → Bool) → List ℕ → List ℕ
 entries takes [] = []
 entries takes (i ∷ l) = keep (takes i) i (entries takes l)
-
--- two lists element by element
-unfoldable pub same : List ℕ → List ℕ → Bool
-same [] [] = true
-same [] (y ∷ r) = false
-same (x ∷ l) [] = false
-same (x ∷ l) (y ∷ r) = eqb x y && same l r
 
 -- "Equality compares span as well as words: equal members with other trailing zeros are unequal."
 unfoldable pub equal : State → State → Bool

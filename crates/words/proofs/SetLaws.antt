@@ -9,7 +9,7 @@ use native.Mathlib.Omega.{arith}
 use lib.Dec.{eqb}
 use lib.ListN.{length, getD}
 use borrow.Author.Tests.{eq-eqb, ne-eqb, lt-ltb, le-ltb}
-use Rattle.words.specs.Sets.{pick, keep, From, Ascending, Below, has, against, merge, difference, intersection, insert, remove, toggle}
+use Rattle.words.specs.Sets.{pick, keep, From, Ascending, Below, has, same, against, merge, difference, intersection, insert, remove, toggle}
 use Rattle.words.proofs.Cases.{three-ways, below-or-not, same-or-not, clash, and-parts, pick-case, two-tests}
 
 -- ---- membership and order
@@ -189,6 +189,29 @@ unfolding xor
 difference-comm l r f g =
     same-members 0 (difference l r) (difference r l) (ascending-difference l r f g) (ascending-difference r l g f)
     (λ i. has-difference l r i f g ∙ two-tests (λ s t. xor s t ≡ xor t s) refl refl refl refl (has l i) (has r i) ∙ sym (has-difference r l i g f))
+
+-- two ascending lists are the same exactly when no element is of one of them only
+pub same-difference : (b : ℕ) (l r : List ℕ) → From b l → From b r → eqb (length (difference l r)) 0 ≡ same l r
+unfolding same From
+same-difference =
+    by-merging (λ b l r m. eqb (length (m true true false)) 0 ≡ same l r) (λ b r g. none r)
+    (λ b x l r m h f g ih. some (m true true false) ∙ sym (on-left x l r g)) (λ b x l r m h f g ih. some (m true true false) ∙ sym (on-right x l r f))
+    (λ b x l r m h f g ih. rw (eq-eqb x x refl) ih)
+  where
+    some : (l : List ℕ) → eqb (suc (length l)) 0 ≡ false
+    some l = ne-eqb (suc (length l)) 0 (λ e. omega arith)
+
+    none : (r : List ℕ) → eqb (length r) 0 ≡ same [] r
+    none [] = refl
+    none (y ∷ r) = some r
+
+    on-left : (x : ℕ) (l r : List ℕ) → From (suc x) r → same (x ∷ l) r ≡ false
+    on-left x l [] g = refl
+    on-left x l (y ∷ r) g = rw (ne-eqb x y (λ e. omega arith))
+
+    on-right : (x : ℕ) (l r : List ℕ) → From (suc x) l → same l (x ∷ r) ≡ false
+    on-right x [] r f = refl
+    on-right x (y ∷ l) r f = rw (ne-eqb y x (λ e. omega arith))
 
 pub has-intersection : (l r : List ℕ) (i : ℕ) → Ascending l → Ascending r → has (intersection l r) i ≡ (has l i && has r i)
 has-intersection l r i f g =

@@ -1,6 +1,6 @@
 -- Sets of natural numbers as strictly ascending lists. Every set operation is a way of merging two such lists, told by
 -- what becomes of the elements of the left one only, of the right one only, and of both. Assumes nothing.
-use mathlib.Core.Bool.{Bool, true, false, _||_}
+use mathlib.Core.Bool.{Bool, true, false, _&&_, _||_}
 use mathlib.Core.List.{List, [], _∷_}
 use Prim.Native.Nat.{ℕ, suc, _≤_, _<_}
 use lib.Dec.{eqb, ltb}
@@ -32,6 +32,13 @@ Below n (x ∷ l) = (x < n) × Below n l
 unfoldable pub has : List ℕ → ℕ → Bool
 has [] i = false
 has (x ∷ l) i = eqb x i || has l i
+
+-- two lists element by element
+unfoldable pub same : List ℕ → List ℕ → Bool
+same [] [] = true
+same [] (y ∷ r) = false
+same (x ∷ l) [] = false
+same (x ∷ l) (y ∷ r) = eqb x y && same l r
 
 -- x and what follows it, merged with the right list; `rest` merges what follows with any list
 unfoldable pub against : Bool → Bool → Bool → ℕ → (List ℕ → List ℕ) → List ℕ → List ℕ
