@@ -6,8 +6,9 @@ use lib.ListN.{replicate}
 use Rattle.words.specs.Sets.{has, merge}
 use Rattle.words.specs.Words.{membersFrom, zeros, wordsOf}
 use Rattle.answers.specs.declared.Answer.{Answer}
+use Rattle.answers.specs.Answers.{truth}
 use Rattle.bitset.specs.Rules.{inserted, removed, cleared, xored, shared, unshared, flipped, entries, equal}
-use Rattle.bitset.specs.Calls.{Bytes, Outcome, inRange, sound, view, truth, preparing, inserting, toggling, removing, clearing, xoring, xoringShared, xoringUnshared, flipping, flippingShared, containing, countingEntries, comparing}
+use Rattle.bitset.specs.Calls.{Bytes, Outcome, inRange, sound, view, judged, preparing, inserting, toggling, removing, clearing, xoring, xoringShared, xoringUnshared, flipping, flippingShared, containing, countingEntries, comparing}
 
 -- a span over words
 abbrev over : ℕ → List ℕ → Bytes
@@ -66,5 +67,5 @@ cases =
 
 cases-hold : map (λ (c : Case). c .found) cases ≡ map (λ (c : Case). c .wanted) cases
 unfolding preparing inserting toggling removing clearing xoring xoringShared xoringUnshared flipping flippingShared containing countingEntries
-    comparing inRange sound view truth inserted removed cleared xored shared unshared flipped entries equal has merge membersFrom zeros wordsOf
+    comparing inRange sound view judged truth inserted removed cleared xored shared unshared flipped entries equal has merge membersFrom zeros wordsOf
 cases-hold = refl

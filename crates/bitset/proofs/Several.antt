@@ -12,11 +12,13 @@ use Rattle.words.proofs.SetLaws.{same-difference}
 use Rattle.words.proofs.RowLaws.{length-into, words-of, words-take, words-xors}
 use Rattle.words.proofs.MemberLaws.{ascending-members, members-xors, members-ands, members-into, members-front, exact-empty}
 use Rattle.answers.specs.declared.Answer.{Answer}
+use Rattle.answers.specs.Answers.{truth}
+use Rattle.answers.proofs.Answering.{served-answer}
 use Rattle.bitset.specs.declared.BitSet.{BitSet}
 use Rattle.bitset.specs.declared.Reply.{Reply}
 use Rattle.bitset.specs.Rules.{State, xored, equal}
-use Rattle.bitset.specs.Calls.{truth, result, countingShared, comparing, view, bytesOf, left, Sound}
-use Rattle.bitset.proofs.Outcomes.{two-none, served-left, served-answer}
+use Rattle.bitset.specs.Calls.{result, countingShared, comparing, view, bytesOf, left, Sound}
+use Rattle.bitset.proofs.Outcomes.{two-none, served-left}
 
 -- ---- the front up to the span has all members
 

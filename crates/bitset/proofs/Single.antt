@@ -11,11 +11,14 @@ use Rattle.words.proofs.SetLaws.{remove-absent}
 use Rattle.words.proofs.RowLaws.{at-past, words-of, zeros-append, zeros-replicate}
 use Rattle.words.proofs.MemberLaws.{ascending-members, has-members, members-none, members-front, zeros-none, zeros-front}
 use Rattle.answers.specs.declared.Answer.{Answer}
+use Rattle.answers.specs.Answers.{truth}
+use Rattle.answers.specs.Judging.{verdict}
+use Rattle.answers.proofs.Answering.{served-answer}
 use Rattle.bitset.specs.declared.BitSet.{BitSet}
 use Rattle.bitset.specs.declared.Reply.{Reply}
 use Rattle.bitset.specs.Rules.{removed, cleared}
-use Rattle.bitset.specs.Calls.{truth, verdict, result, removing, clearing, containing, counting, emptiness, view, bytesOf, left, Sound}
-use Rattle.bitset.proofs.Outcomes.{sound-none, served-left, served-answer}
+use Rattle.bitset.specs.Calls.{judged, result, removing, clearing, containing, counting, emptiness, view, bytesOf, left, Sound}
+use Rattle.bitset.proofs.Outcomes.{sound-none, served-left}
 
 -- ---- writing
 
@@ -24,7 +27,7 @@ pub changed-left : (i : ℕ) (tells : Bool → ℕ) {set : BitSet} {ws new next 
     → Sound set ws → (new ≡ next) × (was ≡ at ws i) → members next ≡ l → length new ≡ length ws → ((k : ℕ) → getD new k 0 < 2 ^ 64)
     → value ≡ tells was → span ≡ reached → reached ≤ length ws
     → r ≡ record { answer = record { number = 0; value = value }; set = record { span = span } }
-    → left r new ≡ result (verdict (bytesOf set ws ∷ [])) (bytesOf set ws) (tells (has (members ws) i)) (record { span = reached; members = l })
+    → left r new ≡ result (verdict (judged (bytesOf set ws) ∷ [])) (bytesOf set ws) (tells (has (members ws) i)) (record { span = reached; members = l })
 changed-left i tells {set} {ws} {new} h c m k f a p b q =
     served-left set ws new _ (sound-none h) b (words-of new f) k (rw (c .0) m) (a ∙ ap tells (c .1 ∙ sym (has-members ws i))) p q
 

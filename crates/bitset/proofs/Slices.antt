@@ -12,28 +12,31 @@ use Rattle.words.specs.Words.{at, members, flips}
 use Rattle.words.proofs.RowLaws.{words-of}
 use Rattle.words.proofs.MemberLaws.{has-members, length-flips}
 use Rattle.answers.specs.declared.Answer.{Answer}
+use Rattle.answers.specs.Judging.{Judged, verdict, earlier}
+use Rattle.answers.proofs.Answering.{served-answer}
+use Rattle.answers.proofs.Judging.{earlier-none}
 use Rattle.bitset.specs.declared.BitSet.{BitSet}
 use Rattle.bitset.specs.declared.Reply.{Reply}
 use Rattle.bitset.specs.Rules.{flipped, entries}
-use Rattle.bitset.specs.Calls.{Bytes, view, verdict, verdictWith, result, countingEntries, bytesOf, left, Sound}
-use Rattle.bitset.specs.Steps.{earlier, reached}
-use Rattle.bitset.proofs.Outcomes.{sound-none, verdict-with, earlier-none, beyond-left, served-left, served-answer}
+use Rattle.bitset.specs.Calls.{view, verdictWith, result, countingEntries, bytesOf, left, Sound}
+use Rattle.bitset.specs.Steps.{reached}
+use Rattle.bitset.proofs.Outcomes.{sound-none, verdict-with, beyond-left, served-left}
 use Rattle.bitset.proofs.IndexLaws.{entries-same, reached-below, reached-flipped, members-flipped}
 
 -- ---- judging
 
 -- a short list is refused by nothing that its sets are not
-pub short-none : (l : List ℕ) (sets : List Bytes) → length l ≤ 16384 → verdict sets ≡ 0 → verdictWith l sets ≡ 0
+pub short-none : (l : List ℕ) (sets : List Judged) → length l ≤ 16384 → verdict sets ≡ 0 → verdictWith l sets ≡ 0
 unfolding earlier
 short-none l sets h z = verdict-with l sets ∙ rw (le-leb (length l) 16384 h, z)
 
 -- the number of a list and that of the sets make that of the call
-pub judged-with : (l : List ℕ) (sets : List Bytes) {m n number : ℕ} → m ≡ pick (leb (length l) 16384) 0 1 → n ≡ verdict sets
+pub judged-with : (l : List ℕ) (sets : List Judged) {m n number : ℕ} → m ≡ pick (leb (length l) 16384) 0 1 → n ≡ verdict sets
     → number ≡ earlier m n → number ≡ verdictWith l sets
 judged-with l sets p q e = rw (e, p, q) (sym (verdict-with l sets))
 
 -- and where that is 0, the list is short and nothing refuses the sets
-pub with-none : (l : List ℕ) (sets : List Bytes) → verdictWith l sets ≡ 0 → (length l ≤ 16384) × (verdict sets ≡ 0)
+pub with-none : (l : List ℕ) (sets : List Judged) → verdictWith l sets ≡ 0 → (length l ≤ 16384) × (verdict sets ≡ 0)
 with-none l sets z =
     let parts = earlier-none _ _ (sym (verdict-with l sets) ∙ z) in
     (go (leb (length l) 16384) refl (parts .0), parts .1)

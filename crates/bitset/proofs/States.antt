@@ -1,6 +1,6 @@
 -- States and bytes: the members, W and the span fix every byte, each rule keeps a state lawful, and every call leaves a target in
 -- range and sound that was so, whatever its operands hold. Assumes nothing.
-use mathlib.Core.Path.{_≡_, refl, sym, ap₂, _∙_}
+use mathlib.Core.Path.{_≡_, sym, ap₂, _∙_}
 use mathlib.Core.Bool.{Bool, true, false}
 use mathlib.Core.List.{List, [], _∷_}
 use Prim.Native.Nat.{ℕ, _+_, _*_, _/_, _≤_, min}
@@ -8,19 +8,20 @@ use native.Mathlib.Omega.{arith}
 use lib.Dec.{eqb, leb}
 use lib.ListN.{length, drop}
 use borrow.Author.Tests.{eqb-true, le-leb, leb-true}
-use Rattle.words.specs.Sets.{pick, From, Below, has, merge}
+use Rattle.words.specs.Sets.{From, Below, has, merge}
 use Rattle.words.specs.Words.{members, zeros, Words, wordsOf}
 use Rattle.words.proofs.Cases.{and-parts, pick-case}
 use Rattle.words.proofs.SetLaws.{from-merge, single, ascending-remove, ascending-intersection, below-le, below-merge, below-intersection, below-remove}
 use Rattle.words.proofs.MemberLaws.{ascending-members, members-words, length-wordsOf, words-wordsOf, words-members, zeros-below, below-zeros}
+use Rattle.answers.specs.Judging.{Judged, verdict}
+use Rattle.answers.proofs.Judging.{Passed, none-passed, none-more}
 use Rattle.bitset.specs.Rules.{State, Lawful, inserted, toggled, removed, cleared, xored, shared, unshared, flipped, entries}
-use Rattle.bitset.specs.Calls.{Bytes, Outcome, inRange, sound, view, encode, ranged, sounded, verdict, result, preparing, inserting, toggling, removing, clearing, xoring, xoringShared, xoringUnshared, flipping, flippingShared}
-use Rattle.bitset.proofs.Outcomes.{verdict-more, earlier-none}
+use Rattle.bitset.specs.Calls.{Bytes, Outcome, inRange, sound, view, encode, judged, result, preparing, inserting, toggling, removing, clearing, xoring, xoringShared, xoringUnshared, flipping, flippingShared}
 use Rattle.bitset.proofs.Slices.{with-none}
 
 -- in range and sound
 abbrev pub InOrder : Bytes → Type 0
-InOrder b = (inRange b ≡ true) × (sound b ≡ true)
+InOrder b = Passed (judged b)
 
 -- ---- bytes and states
 
@@ -51,10 +52,13 @@ unfolding encode view
 view-encode h = rw (members-encode h)
 
 pub encode-sound : {W : ℕ} {s : State} → Lawful W s → W ≤ 8192 → InOrder (encode W s)
-unfolding encode inRange sound
+unfolding encode judged inRange sound
 encode-sound {W} {s} h w =
     let beyond = below-zeros (s .span) (wordsOf W (s .members)) (words-wordsOf W (s .members)) (rw (members-encode h) (h .below)) in
-    (rw (length-wordsOf W (s .members)) (le-leb W 8192 w), rw (length-wordsOf W (s .members), le-leb (s .span) W (h .within), beyond))
+    record {
+      inRange = rw (length-wordsOf W (s .members)) (le-leb W 8192 w);
+      sound = rw (length-wordsOf W (s .members), le-leb (s .span) W (h .within)) beyond;
+    }
 
 -- ---- the rules
 
@@ -123,25 +127,21 @@ flipped-lawful (i ∷ l) {s = s} h w = flipped-lawful l (toggled-lawful i {W = t
 
 pub result-sound : (n : ℕ) (b : Bytes) (v : ℕ) (s : State) → InOrder b
     → (n ≡ 0 → s .span ≤ length (b .words) → Lawful (length (b .words)) s) → InOrder (result n b v s .bytes)
-unfolding result inRange
+unfolding result judged inRange
 result-sound n b v s w h =
     pick-case (λ (o : Outcome). InOrder (o .bytes)) (eqb n 0)
     (λ e. pick-case (λ (o : Outcome). InOrder (o .bytes)) (leb (s .span) (length (b .words)))
-    (λ d. encode-sound (h (eqb-true n 0 e) (leb-true (s .span) (length (b .words)) d)) (leb-true (length (b .words)) 8192 (w .0))) (λ d. w))
+    (λ d. encode-sound (h (eqb-true n 0 e) (leb-true (s .span) (length (b .words)) d)) (leb-true (length (b .words)) 8192 (w .inRange))) (λ d. w))
     (λ e. w)
 
 -- sets that nothing refuses hold lawful states
-none-lawful : (b : Bytes) → verdict (b ∷ []) ≡ 0 → Lawful (length (b .words)) (view b)
-unfolding verdict ranged sounded
-none-lawful b z = view-lawful b (go (inRange b) (sound b) z)
-  where
-    go : (s t : Bool) → _≡_ {A = ℕ} (pick s (pick t 0 2) 1) 0 → t ≡ true
-    go true true z = refl
-    go true false z = absurd (omega arith)
-    go false t z = absurd (omega arith)
+none-lawful : (b : Bytes) → verdict (judged b ∷ []) ≡ 0 → Lawful (length (b .words)) (view b)
+unfolding judged
+none-lawful b z = view-lawful b (none-passed (judged b) z .sound)
 
-more-lawful : (b : Bytes) (sets : List Bytes) → verdict (b ∷ sets) ≡ 0 → Lawful (length (b .words)) (view b) × (verdict sets ≡ 0)
-more-lawful b sets z = let parts = earlier-none _ _ (sym (verdict-more b sets) ∙ z) in (none-lawful b (parts .0), parts .1)
+more-lawful : (b : Bytes) (sets : List Judged) → verdict (judged b ∷ sets) ≡ 0 → Lawful (length (b .words)) (view b) × (verdict sets ≡ 0)
+unfolding judged
+more-lawful b sets z = let parts = none-more (judged b) sets z in (view-lawful b (parts .0 .sound), parts .1)
 
 pub preparing-sound : (ws : List ℕ) → length ws ≤ 8192 → InOrder (preparing ws .bytes)
 unfolding preparing encode wordsOf From Below
@@ -167,25 +167,26 @@ clearing-sound b w = result-sound _ b _ _ w (λ z p. cleared-lawful (none-lawful
 
 pub xoring-sound : (b o : Bytes) → InOrder b → InOrder (xoring b o .bytes)
 unfolding xoring
-xoring-sound b o w = result-sound _ b _ _ w (λ z. let all = more-lawful b (o ∷ []) z in xored-lawful (all .0) (none-lawful o (all .1)))
+xoring-sound b o w = result-sound _ b _ _ w (λ z. let all = more-lawful b (judged o ∷ []) z in xored-lawful (all .0) (none-lawful o (all .1)))
 
 pub xoring-shared-sound : (b o p : Bytes) → InOrder b → InOrder (xoringShared b o p .bytes)
 unfolding xoringShared
 xoring-shared-sound b o p w =
-    result-sound _ b _ _ w (λ z. let all = more-lawful b (o ∷ p ∷ []) z in let two = more-lawful o (p ∷ []) (all .1) in
+    result-sound _ b _ _ w (λ z. let all = more-lawful b (judged o ∷ judged p ∷ []) z in let two = more-lawful o (judged p ∷ []) (all .1) in
     xored-lawful (all .0) (shared-lawful {W = shared (view o) (view p) .span} (two .0) (none-lawful p (two .1)) (omega arith)))
 
 pub xoring-unshared-sound : (b o p : Bytes) → InOrder b → InOrder (xoringUnshared b o p .bytes)
 unfolding xoringUnshared
 xoring-unshared-sound b o p w =
-    result-sound _ b _ _ w (λ z. let all = more-lawful b (o ∷ p ∷ []) z in let two = more-lawful o (p ∷ []) (all .1) in
+    result-sound _ b _ _ w (λ z. let all = more-lawful b (judged o ∷ judged p ∷ []) z in let two = more-lawful o (judged p ∷ []) (all .1) in
     xored-lawful (all .0) (unshared-lawful {W = unshared (view o) (view p) .span} (two .0) (none-lawful p (two .1)) (omega arith)))
 
 pub flipping-sound : (l : List ℕ) (b : Bytes) → InOrder b → InOrder (flipping l b .bytes)
 unfolding flipping
-flipping-sound l b w = result-sound _ b _ _ w (λ z. flipped-lawful l (none-lawful b (with-none l (b ∷ []) z .1)))
+flipping-sound l b w = result-sound _ b _ _ w (λ z. flipped-lawful l (none-lawful b (with-none l (judged b ∷ []) z .1)))
 
 pub flipping-shared-sound : (l : List ℕ) (b o : Bytes) → InOrder b → InOrder (flippingShared l b o .bytes)
 unfolding flippingShared
 flipping-shared-sound l b o w =
-    result-sound _ b _ _ w (λ z. flipped-lawful (entries (has (members (o .words))) l) (more-lawful b (o ∷ []) (with-none l (b ∷ o ∷ []) z .1) .0))
+    result-sound _ b _ _ w (λ z. let sets = with-none l (judged b ∷ judged o ∷ []) z in
+    flipped-lawful (entries (has (members (o .words))) l) (more-lawful b (judged o ∷ []) (sets .1) .0))

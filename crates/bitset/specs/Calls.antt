@@ -10,6 +10,8 @@ use lib.ListN.{length, drop, replicate}
 use Rattle.words.specs.Sets.{pick, has, intersection}
 use Rattle.words.specs.Words.{members, wordsOf, zeros}
 use Rattle.answers.specs.declared.Answer.{Answer}
+use Rattle.answers.specs.Answers.{truth, answered}
+use Rattle.answers.specs.Judging.{Judged, ranged, sounded, verdict}
 use Rattle.bitset.specs.Rules.{State, inserted, toggled, removed, cleared, xored, shared, unshared, flipped, entries, equal}
 use Rattle.bitset.specs.declared.BitSet.{BitSet}
 use Rattle.bitset.specs.declared.Reply.{Reply}
@@ -38,27 +40,12 @@ encode W s = record { span = s .span; words = wordsOf W (s .members) }
 
 -- ---- numbers
 
--- "Yes is 1"
-unfoldable pub truth : Bool → ℕ
-truth t = pick t 1 0
+-- what is found of a set
+unfoldable pub judged : Bytes → Judged
+judged b = record { inRange = inRange b; sound = sound b }
 
--- 1 where a set's words are too many, the target's first; else what comes next
-unfoldable pub ranged : List Bytes → ℕ → ℕ
-ranged [] next = next
-ranged (b ∷ sets) next = pick (inRange b) (ranged sets next) 1
-
--- 2 where a set is not sound, the target first; else what comes next
-unfoldable pub sounded : List Bytes → ℕ → ℕ
-sounded [] next = next
-sounded (b ∷ sets) next = pick (sound b) (sounded sets next) 2
-
--- the number that the sets of a call are refused with; 0 where they are not
-unfoldable pub verdict : List Bytes → ℕ
-unfolding ranged sounded
-verdict sets = ranged sets (sounded sets 0)
-
--- the same for a call that takes a list of indices: "A list of indices has 0 to 16,384 entries."
-unfoldable pub verdictWith : List ℕ → List Bytes → ℕ
+-- the number that a call with a list of indices is refused with: "A list of indices has 0 to 16,384 entries."
+unfoldable pub verdictWith : List ℕ → List Judged → ℕ
 unfolding ranged sounded
 verdictWith list sets = ranged sets (pick (leb (length list) 16384) (sounded sets 0) 1)
 
@@ -68,10 +55,6 @@ verdictWith list sets = ranged sets (pick (leb (length list) 16384) (sounded set
 pub record Outcome : Type 0 where
   pub answer : Answer
   pub bytes : Bytes
-
--- an answer with value v, if no number refuses it
-unfoldable pub answered : ℕ → ℕ → Answer
-answered n v = record { number = n; value = pick (eqb n 0) v 0 }
 
 -- refused with n, everything stays
 unfoldable pub refused : ℕ → Bytes → Outcome
@@ -98,71 +81,71 @@ preparing ws =
 -- answers whether the index is new
 unfoldable pub inserting : ℕ → Bytes → Outcome
 unfolding result verdict
-inserting i b = result (verdict (b ∷ [])) b (truth (not (has (members (b .words)) i))) (inserted i (view b))
+inserting i b = result (verdict (judged b ∷ [])) b (truth (not (has (members (b .words)) i))) (inserted i (view b))
 
 -- answers whether the index is now present
 unfoldable pub toggling : ℕ → Bytes → Outcome
 unfolding result verdict
-toggling i b = result (verdict (b ∷ [])) b (truth (not (has (members (b .words)) i))) (toggled i (view b))
+toggling i b = result (verdict (judged b ∷ [])) b (truth (not (has (members (b .words)) i))) (toggled i (view b))
 
 -- answers whether the index was present
 unfoldable pub removing : ℕ → Bytes → Outcome
 unfolding result verdict
-removing i b = result (verdict (b ∷ [])) b (truth (has (members (b .words)) i)) (removed i (view b))
+removing i b = result (verdict (judged b ∷ [])) b (truth (has (members (b .words)) i)) (removed i (view b))
 
 unfoldable pub clearing : Bytes → Outcome
 unfolding result verdict
-clearing b = result (verdict (b ∷ [])) b 0 (cleared (view b))
+clearing b = result (verdict (judged b ∷ [])) b 0 (cleared (view b))
 
 -- `symmetric_difference_update`
 unfoldable pub xoring : Bytes → Bytes → Outcome
 unfolding result verdict
-xoring b o = result (verdict (b ∷ o ∷ [])) b 0 (xored (view b) (view o))
+xoring b o = result (verdict (judged b ∷ judged o ∷ [])) b 0 (xored (view b) (view o))
 
 -- `xor_intersection_into` and `xor_symmetric_difference_into`: the target b, the operands o and p
 unfoldable pub xoringShared : Bytes → Bytes → Bytes → Outcome
 unfolding result verdict
-xoringShared b o p = result (verdict (b ∷ o ∷ p ∷ [])) b 0 (xored (view b) (shared (view o) (view p)))
+xoringShared b o p = result (verdict (judged b ∷ judged o ∷ judged p ∷ [])) b 0 (xored (view b) (shared (view o) (view p)))
 
 unfoldable pub xoringUnshared : Bytes → Bytes → Bytes → Outcome
 unfolding result verdict
-xoringUnshared b o p = result (verdict (b ∷ o ∷ p ∷ [])) b 0 (xored (view b) (unshared (view o) (view p)))
+xoringUnshared b o p = result (verdict (judged b ∷ judged o ∷ judged p ∷ [])) b 0 (xored (view b) (unshared (view o) (view p)))
 
 -- the slice forms: `xor_assign_slice`, and `xor_intersection_slice` with the entries that o has
 unfoldable pub flipping : List ℕ → Bytes → Outcome
 unfolding result verdictWith
-flipping l b = result (verdictWith l (b ∷ [])) b 0 (flipped l (view b))
+flipping l b = result (verdictWith l (judged b ∷ [])) b 0 (flipped l (view b))
 
 unfoldable pub flippingShared : List ℕ → Bytes → Bytes → Outcome
 unfolding result verdictWith
-flippingShared l b o = result (verdictWith l (b ∷ o ∷ [])) b 0 (flipped (entries (has (members (o .words))) l) (view b))
+flippingShared l b o = result (verdictWith l (judged b ∷ judged o ∷ [])) b 0 (flipped (entries (has (members (o .words))) l) (view b))
 
 -- ---- the reads
 
 unfoldable pub containing : ℕ → Bytes → Answer
 unfolding answered verdict
-containing i b = answered (verdict (b ∷ [])) (truth (has (members (b .words)) i))
+containing i b = answered (verdict (judged b ∷ [])) (truth (has (members (b .words)) i))
 
 unfoldable pub counting : Bytes → Answer
 unfolding answered verdict
-counting b = answered (verdict (b ∷ [])) (length (members (b .words)))
+counting b = answered (verdict (judged b ∷ [])) (length (members (b .words)))
 
 unfoldable pub emptiness : Bytes → Answer
 unfolding answered verdict
-emptiness b = answered (verdict (b ∷ [])) (truth (eqb (length (members (b .words))) 0))
+emptiness b = answered (verdict (judged b ∷ [])) (truth (eqb (length (members (b .words))) 0))
 
 -- `intersection_count`, and `intersection_count_slice` ("a list of indices"; a repeated entry counts each time)
 unfoldable pub countingShared : Bytes → Bytes → Answer
 unfolding answered verdict
-countingShared b o = answered (verdict (b ∷ o ∷ [])) (length (intersection (members (b .words)) (members (o .words))))
+countingShared b o = answered (verdict (judged b ∷ judged o ∷ [])) (length (intersection (members (b .words)) (members (o .words))))
 
 unfoldable pub countingEntries : List ℕ → Bytes → Answer
 unfolding answered verdictWith
-countingEntries l b = answered (verdictWith l (b ∷ [])) (length (entries (has (members (b .words))) l))
+countingEntries l b = answered (verdictWith l (judged b ∷ [])) (length (entries (has (members (b .words))) l))
 
 unfoldable pub comparing : Bytes → Bytes → Answer
 unfolding answered verdict
-comparing b o = answered (verdict (b ∷ o ∷ [])) (truth (equal (view b) (view o)))
+comparing b o = answered (verdict (judged b ∷ judged o ∷ [])) (truth (equal (view b) (view o)))
 
 -- ---- what the code holds
 

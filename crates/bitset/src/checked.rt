@@ -2,11 +2,11 @@
 use crate::BitSet;
 use crate::Reply;
 use crate::indices;
-use crate::replies::answer;
 use crate::replies::refuse;
 use crate::replies::serve;
-use crate::replies::truth;
 use answers::Answer;
+use answers::give::answer;
+use answers::give::truth;
 use combined::and_count;
 use combined::xor_span;
 use words::row;

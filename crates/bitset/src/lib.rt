@@ -4,6 +4,8 @@
 // document 01's numbers and changes nothing. A call judges its sets, which is linear in their words, and then does the work;
 // for sets that are known to be sound, module `checked` has the same calls without the judging.
 use answers::Answer;
+use answers::give;
+use answers::judge::earlier;
 use words::write::clear_all;
 ghost use mathlib.Core.Path.{_≡_};
 ghost use Rattle.bitset.specs.Calls.{bytesOf, left, preparing, inserting, toggling, removing, clearing, xoring, xoringShared, xoringUnshared, flipping, flippingShared, containing, counting, emptiness, countingShared, countingEntries, comparing};
@@ -73,7 +75,7 @@ impl BitSet {
     {
         let number = judge::one(self, words);
         if number != answers::SERVED {
-            return replies::refusal(number);
+            return give::refusal(number);
         }
         checked::contains(self, words, index)
     }
@@ -83,7 +85,7 @@ impl BitSet {
     {
         let number = judge::one(self, words);
         if number != answers::SERVED {
-            return replies::refusal(number);
+            return give::refusal(number);
         }
         checked::is_empty(self, words)
     }
@@ -93,7 +95,7 @@ impl BitSet {
     {
         let number = judge::one(self, words);
         if number != answers::SERVED {
-            return replies::refusal(number);
+            return give::refusal(number);
         }
         checked::len(self, words)
     }
@@ -167,7 +169,7 @@ impl BitSet {
     {
         let number = judge::two(self, words, other, others);
         if number != answers::SERVED {
-            return replies::refusal(number);
+            return give::refusal(number);
         }
         checked::intersection_count(self, words, other, others)
     }
@@ -176,7 +178,7 @@ impl BitSet {
     pub fn xor_assign_slice(self, words: &mut [u64], indices: &[usize]) -> Reply
         ensures { λ r. ⌜ left r (now (words .exit)) ≡ flipping (now (indices .entry)) (bytesOf self (now (words .entry))) ⌝ }
     {
-        let number = judge::earlier(judge::list(indices), judge::one(self, words));
+        let number = earlier(judge::list(indices), judge::one(self, words));
         if number != answers::SERVED {
             return replies::refuse(number, self);
         }
@@ -193,7 +195,7 @@ impl BitSet {
     ) -> Reply
         ensures { λ r. ⌜ left r (now (words .exit)) ≡ flippingShared (now (indices .entry)) (bytesOf self (now (words .entry))) (bytesOf other (now (others .entry))) ⌝ }
     {
-        let number = judge::earlier(judge::list(indices), judge::two(self, words, other, others));
+        let number = earlier(judge::list(indices), judge::two(self, words, other, others));
         if number != answers::SERVED {
             return replies::refuse(number, self);
         }
@@ -204,9 +206,9 @@ impl BitSet {
     pub fn intersection_count_slice(self, words: &[u64], indices: &[usize]) -> Answer
         ensures { λ r. ⌜ r ≡ countingEntries (now (indices .entry)) (bytesOf self (now (words .entry))) ⌝ }
     {
-        let number = judge::earlier(judge::list(indices), judge::one(self, words));
+        let number = earlier(judge::list(indices), judge::one(self, words));
         if number != answers::SERVED {
-            return replies::refusal(number);
+            return give::refusal(number);
         }
         checked::intersection_count_slice(self, words, indices)
     }
@@ -217,7 +219,7 @@ impl BitSet {
     {
         let number = judge::two(self, words, other, others);
         if number != answers::SERVED {
-            return replies::refusal(number);
+            return give::refusal(number);
         }
         checked::eq(self, words, other, others)
     }

@@ -1,34 +1,9 @@
-// Making answers and replies.
+// Making replies.
 use crate::BitSet;
 use crate::Reply;
-use answers::Answer;
+use answers::give::answer;
+use answers::give::refusal;
 ghost use mathlib.Core.Path.{_≡_};
-ghost use Rattle.bitset.specs.Calls.{truth};
-
-pub fn truth(answer: bool) -> u64
-    ensures { λ r. ⌜ r ≡ truth answer ⌝ }
-{
-    if answer { 1 } else { 0 }
-}
-
-// A read's answer: served with a value, or refused.
-pub fn answer(value: u64) -> Answer
-    ensures { λ r. ⌜ r ≡ record { number = 0; value = value } ⌝ }
-{
-    Answer {
-        number: answers::SERVED,
-        value: value,
-    }
-}
-
-pub fn refusal(number: u8) -> Answer
-    ensures { λ r. ⌜ r ≡ record { number = number; value = 0 } ⌝ }
-{
-    Answer {
-        number: number,
-        value: 0,
-    }
-}
 
 // Served, with a value and the target's new span.
 pub fn serve(value: u64, span: usize) -> Reply

@@ -2,6 +2,7 @@
 use crate::State;
 use crate::calls::header;
 use crate::line::Line;
+use answers::judge::earlier;
 use bitset::judge;
 use libc::STDOUT_FILENO;
 use words::row::contains;
@@ -33,7 +34,7 @@ pub fn print(line: Line, state: State, words: &[u64]) {
     }
     let set = header(state, line.set);
     let count = set.len(words);
-    let number = judge::earlier(state.number, count.number);
+    let number = earlier(state.number, count.number);
     if number != answers::SERVED {
         print_field(number as u64, 2);
     } else {

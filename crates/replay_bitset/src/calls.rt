@@ -2,9 +2,9 @@
 use crate::State;
 use crate::line::Line;
 use answers::Answer;
+use answers::give::refusal;
 use bitset::BitSet;
 use bitset::Reply;
-use bitset::replies::refusal;
 use std::num::wrapping_add_u64;
 use words::row::shorter;
 

@@ -10,5 +10,5 @@ pub clear-spec : {M : Type 1} → statement M
 unfolding clearing
 clear-spec = tie.close (tie.spec (λ c κs. search needs) (λ c κs. search needs) (λ c. search needs)
     (λ c. refused-left _ _ _ (c .before .before .one .ensures) (c .before .if1 .taken) (c .refuse .ensures))
-    (λ c κs. none-sound _ _ (sym (c .before .before .one .ensures) ∙ c .before .if1 .left)) (λ c. search needs)
+    (λ c κs. none-sound (sym (c .before .before .one .ensures) ∙ c .before .if1 .left)) (λ c. search needs)
     (λ c. c .before .before .clear .ensures))

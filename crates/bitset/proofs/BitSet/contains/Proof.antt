@@ -1,8 +1,9 @@
 -- `bitset::BitSet::contains` meets its contract.
 use borrow.Author.Needs.{needs}
 use mathlib.Core.Path.{sym, _∙_}
+use Rattle.answers.proofs.Answering.{refused-answer}
 use Rattle.bitset.specs.Calls.{containing}
-use Rattle.bitset.proofs.Outcomes.{none-sound, refused-answer}
+use Rattle.bitset.proofs.Outcomes.{none-sound}
 use Rattle.bitset.proofs.BitSet.contains.Statement.{statement}
 use Rattle.bitset.proofs.BitSet.contains.Tie as tie
 
@@ -10,5 +11,5 @@ pub contains-spec : {M : Type 1} → statement M
 unfolding containing
 contains-spec = tie.close (tie.spec (λ c κs. search needs) (λ c κs. search needs)
     (λ c. refused-answer _ (c .before .before .one .ensures) (c .before .if1 .taken) (c .refusal .ensures))
-    (λ c κs. none-sound _ _ (sym (c .before .one .ensures) ∙ c .if1 .left))
+    (λ c κs. none-sound (sym (c .before .one .ensures) ∙ c .if1 .left))
     (λ c. c .contains .ensures))

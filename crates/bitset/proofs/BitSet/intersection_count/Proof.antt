@@ -1,8 +1,9 @@
 -- `bitset::BitSet::intersection_count` meets its contract.
 use borrow.Author.Needs.{needs}
 use mathlib.Core.Path.{sym, _∙_}
+use Rattle.answers.proofs.Answering.{refused-answer}
 use Rattle.bitset.specs.Calls.{countingShared}
-use Rattle.bitset.proofs.Outcomes.{two-sound, refused-answer}
+use Rattle.bitset.proofs.Outcomes.{two-sound}
 use Rattle.bitset.proofs.BitSet.intersection_count.Statement.{statement}
 use Rattle.bitset.proofs.BitSet.intersection_count.Tie as tie
 

@@ -1,8 +1,9 @@
 -- `bitset::BitSet::intersection_count_slice` meets its contract.
 use borrow.Author.Needs.{needs}
 use mathlib.Core.Path.{sym, _∙_}
+use Rattle.answers.proofs.Answering.{refused-answer}
 use Rattle.bitset.specs.Calls.{countingEntries}
-use Rattle.bitset.proofs.Outcomes.{none-sound, refused-answer}
+use Rattle.bitset.proofs.Outcomes.{none-sound}
 use Rattle.bitset.proofs.Slices.{judged-with, with-none}
 use Rattle.bitset.proofs.BitSet.intersection_count_slice.Statement.{statement}
 use Rattle.bitset.proofs.BitSet.intersection_count_slice.Tie as tie
@@ -21,5 +22,5 @@ intersection-count-slice-spec = tie.close (tie.spec (λ c κs. search needs) (λ
     let indices = listed .before .before .before .args .indices .now in
     let number = judged-with indices _ (listed .list .ensures) (judged .before .one .ensures) (judged .earlier .ensures) in
     let parts = with-none indices _ (sym number ∙ c .if1 .left) in
-    (none-sound _ _ (parts .1), parts .0))
+    (none-sound (parts .1), parts .0))
     (λ c. c .intersection-count-slice .ensures))

@@ -21,5 +21,5 @@ xor-assign-slice-spec = tie.close (tie.spec (λ c κs. search needs) (λ c κs. 
     let indices = listed .before .before .before .args .indices .now in
     let number = judged-with indices _ (listed .list .ensures) (judged .before .one .ensures) (judged .earlier .ensures) in
     let parts = with-none indices _ (sym number ∙ c .before .if1 .left) in
-    (none-sound _ _ (parts .1), parts .0))
+    (none-sound (parts .1), parts .0))
     (λ c. search needs) (λ c. c .before .before .xor-assign-slice .ensures))

@@ -3,8 +3,9 @@ use borrow.Author.Needs.{needs}
 use native.Mathlib.Omega.{arith}
 use mathlib.Core.Bool.{not}
 use Rattle.words.proofs.MemberLaws.{members-set}
+use Rattle.answers.specs.Answers.{truth}
 use Rattle.bitset.specs.Rules.{reaching, inserted}
-use Rattle.bitset.specs.Calls.{truth, view, bytesOf, inserting}
+use Rattle.bitset.specs.Calls.{view, bytesOf, inserting}
 use Rattle.bitset.proofs.Outcomes.{sound-none, beyond-left}
 use Rattle.bitset.proofs.Single.{changed-left}
 use Rattle.bitset.proofs.checked.insert.Statement.{statement}

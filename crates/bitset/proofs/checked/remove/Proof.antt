@@ -2,8 +2,9 @@
 use borrow.Author.Needs.{needs}
 use native.Mathlib.Omega.{arith}
 use Rattle.words.proofs.MemberLaws.{members-clear}
+use Rattle.answers.specs.Answers.{truth}
 use Rattle.bitset.specs.Rules.{removed}
-use Rattle.bitset.specs.Calls.{truth, view, bytesOf, removing}
+use Rattle.bitset.specs.Calls.{view, bytesOf, removing}
 use Rattle.bitset.proofs.Single.{changed-left, removed-past}
 use Rattle.bitset.proofs.checked.remove.Statement.{statement}
 use Rattle.bitset.proofs.checked.remove.Tie as tie

@@ -1,7 +1,7 @@
 -- `bitset::judge::three` meets its contract.
 use borrow.Author.Needs.{needs}
 use mathlib.Core.Path.{sym}
-use Rattle.bitset.proofs.Outcomes.{verdict-more}
+use Rattle.answers.proofs.Judging.{verdict-more}
 use Rattle.bitset.proofs.judge.three.Statement.{statement}
 use Rattle.bitset.proofs.judge.three.Tie as tie
 
