@@ -1,5 +1,6 @@
 -- The bits of one word: what the operators on words do to them, the lowest one, and the list of ones. Assumes nothing.
 use mathlib.Core.Path.{_≡_, refl, sym, ap, _∙_}
+use mathlib.Core.Logic.{⊎-elim}
 use mathlib.Core.Bool.{Bool, true, false, not, _&&_, xor}
 use mathlib.Core.List.{List, [], _∷_}
 use Prim.Native.Nat.{ℕ, zero, suc, _+_, _-_, _*_, _/_, _%_, _^_, _≤_, _<_, min}
@@ -8,13 +9,13 @@ use native.Mathlib.Omega.{arith}
 use lib.Arith.{bin-ind}
 use lib.Dec.{eqb, eqb·zero-suc, eqb·suc-zero, eqb·suc-suc}
 use lib.Pow.{pow-pos, pow-lt, pow-mono}
-use lib.Bits.{bitAnd, bitOr, bitXor, and-step, and-shr, xor-shr, and-le-l, and-le-r, and-self, and-mask, or-lt, or-add-and, xor-add-and}
+use lib.Bits.{bitAnd, bitOr, bitXor, and-step, and-shr, xor-shr, and-le-l, and-le-r, and-self, and-mask, or-lt, or-add-and, xor-self, xor-add-and}
 use lib.Count.{ones, ones-step, ones-le, trailingZeros, under}
 use lib.ListN.{length, getD}
 use borrow.Author.Tests.{eq-eqb, ne-eqb}
 use Rattle.words.specs.Sets.{pick, keep, From, has}
 use Rattle.words.specs.Words.{bit, onesFrom, put, lowest}
-use Rattle.words.proofs.Cases.{clash, pick-case}
+use Rattle.words.proofs.Cases.{same-or-not, clash, pick-case}
 use Rattle.words.proofs.SetLaws.{has-low, from-le}
 
 -- ---- bits
@@ -84,6 +85,12 @@ xor-assoc = bin-ind (λ (a : ℕ). (b c : ℕ) → bitXor (bitXor a b) c ≡ bit
 pub or-zero : (a b : ℕ) → eqb (bitOr a b) 0 ≡ (eqb a 0 && eqb b 0)
 or-zero zero b = refl
 or-zero (suc a) b = rw eqb·suc-zero (ne-eqb (bitOr (suc a) b) 0 (λ e. omega (arith, or-add-and (suc a) b, and-le-r (suc a) b)))
+
+-- an XOR is 0 where both are the same
+pub xor-zero : (a b : ℕ) → eqb (bitXor a b) 0 ≡ eqb a b
+xor-zero a b =
+    ⊎-elim (λ e. rw (eq-eqb a b e) (eq-eqb (bitXor a b) 0 (ap (λ (x : ℕ). bitXor x b) e ∙ xor-self b)))
+    (λ n. rw (ne-eqb a b n) (ne-eqb (bitXor a b) 0 (λ z. n (omega (arith, xor-add-and a b, and-le-l a b, and-le-r a b))))) (same-or-not a b)
 
 -- words of n bits with the same bits are equal
 pub same-bits : (n a b : ℕ) → a < 2 ^ n → b < 2 ^ n → ((k : ℕ) → k < n → bit a k ≡ bit b k) → a ≡ b

@@ -9,7 +9,7 @@ use native.Mathlib.Omega.{arith}
 use lib.Dec.{eqb}
 use lib.Bits.{bitAnd, bitXor, and-zero-l, and-zero-r, xor-zero-l, xor-zero-r, xor-lt}
 use lib.Count.{ones}
-use lib.ListN.{length, getD, take, replicate, length-append, List·getD-eq-default}
+use lib.ListN.{length, getD, take, drop, replicate, length-append, take-append-drop, List·getD-eq-default}
 use lib.Seq.{take-length}
 use borrow.Author.Tests.{eq-eqb, ne-eqb, eqb-true}
 use Rattle.words.specs.Sets.{pick}
@@ -147,6 +147,9 @@ pub zeros-append : (a b : List ℕ) → zeros (a ++ b) ≡ (zeros a && zeros b)
 unfolding zeros
 zeros-append [] b = refl
 zeros-append (w ∷ a) b = ap (λ (t : Bool). eqb w 0 && t) (zeros-append a b) ∙ sym (and-assoc (eqb w 0) (zeros a) (zeros b))
+
+pub zeros-drop : (k : ℕ) (ws : List ℕ) → zeros ws ≡ true → zeros (drop k ws) ≡ true
+zeros-drop k ws h = and-parts (zeros (take k ws)) (zeros (drop k ws)) (sym (zeros-append (take k ws) (drop k ws)) ∙ rw (take-append-drop k ws) h) .1
 
 exact-from : (p s : ℕ) (ws : List ℕ) → exactFrom p s ws ≡ pick (eqb (exact ws) 0) s (p + exact ws)
 unfolding exact

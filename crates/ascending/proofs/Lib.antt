@@ -1,0 +1,5 @@
+pub mod OrderLaws
+pub mod SearchLaws
+pub mod PlaceLaws
+pub mod MergingLaws
+pub mod RowLaws
