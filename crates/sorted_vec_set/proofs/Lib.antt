@@ -1,0 +1,5 @@
+pub mod Outcomes
+pub mod Single
+pub mod Several
+pub mod States
+pub mod Examples
