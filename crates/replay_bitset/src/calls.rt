@@ -1,15 +1,13 @@
 // The calls that a line names by its operation's code.
 use crate::State;
-use crate::line::Line;
 use answers::Answer;
 use answers::give::refusal;
 use bitset::BitSet;
 use bitset::Reply;
+use history::UNKNOWN;
+use history::line::Line;
 use std::num::wrapping_add_u64;
 use words::row::shorter;
-
-// No number of document 01: BitSet has no such call.
-const UNKNOWN: u8 = 6;
 
 // A set above 2, which no history names, counts as 2.
 pub fn header(state: State, set: usize) -> BitSet {

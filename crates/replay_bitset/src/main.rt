@@ -4,11 +4,10 @@
 // Nothing judges the input: a line that is none of a history is answered somehow, and the comparison fails.
 mod answer;
 mod calls;
-mod line;
 
 use bitset::BitSet;
-use line::Line;
-use std::num::wrapping_add_usize;
+use history::line;
+use history::line::Line;
 use words::row::shorter;
 ghost use Prim.Native.Nat.{_≤_};
 ghost use lib.ListN.{length};
@@ -37,7 +36,7 @@ fn begin(line: Line, mut state: State) -> State {
     state.number = answers::SERVED;
     if line.operation == 0x00 {
         let place = shorter(line.set, 2);
-        state.lent[place] = line.number >> 32;
+        state.lent[place] = line.words_lent();
     }
     state
 }
@@ -54,7 +53,7 @@ fn repeat(
     let mut left = line.times;
     while left > 0 {
         state = calls::make(line, state, words, a, b, list);
-        line.number = wrapping_add_usize(line.number, 1);
+        line = line.following();
         left -= 1;
     }
     answer::print(line, state, words);
@@ -72,7 +71,7 @@ fn play<'a>(
     list: &mut [usize],
 ) -> State {
     let state = begin(line, state);
-    let lower = if line.set == 0 { 1 } else { 0 };
+    let lower = line.lower();
     let a = if line.a == lower { first } else { second };
     let b = if line.b == lower { first } else { second };
     let start = 0;

@@ -10,7 +10,7 @@ print-members-spec = tie.close (tie.spec
     (λ words index₀ index-end index. index-end - index)
     (λ c κs. search needs) (λ c. search needs)
     (λ c. tt)
-    (λ c κs. search needs) (λ c κs. search needs) (λ c κs. search needs)
+    (λ c κs. search needs) (λ c κs. search needs)
     (λ c. search needs) (λ c. search needs)
     (λ c. tt)
     (λ c. tt))
