@@ -82,13 +82,13 @@ passed-ascending : (b : Bytes) → Passed (judged b) → Ascending (members b)
 unfolding judged
 passed-ascending b p = sound-parts b (p .sound) .1
 
-none-ascending : (b : Bytes) → verdict (judged b ∷ []) ≡ 0 → Ascending (members b)
+pub none-ascending : (b : Bytes) → verdict (judged b ∷ []) ≡ 0 → Ascending (members b)
 none-ascending b z = passed-ascending b (none-passed (judged b) z)
 
-two-ascending : (b o : Bytes) → verdict (judged b ∷ judged o ∷ []) ≡ 0 → Ascending (members b) × Ascending (members o)
+pub two-ascending : (b o : Bytes) → verdict (judged b ∷ judged o ∷ []) ≡ 0 → Ascending (members b) × Ascending (members o)
 two-ascending b o z = let parts = none-more (judged b) (judged o ∷ []) z in (passed-ascending b (parts .0), none-ascending o (parts .1))
 
-three-ascending : (b o p : Bytes) → verdict (judged b ∷ judged o ∷ judged p ∷ []) ≡ 0
+pub three-ascending : (b o p : Bytes) → verdict (judged b ∷ judged o ∷ judged p ∷ []) ≡ 0
     → Ascending (members b) × Ascending (members o) × Ascending (members p)
 three-ascending b o p z =
     let parts = none-more (judged b) (judged o ∷ judged p ∷ []) z in
