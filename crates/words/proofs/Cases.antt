@@ -24,6 +24,11 @@ same-or-not a b = ⊎-elim (λ l. inr (λ e. omega arith)) (λ r. ⊎-elim inl (
 pub clash : {A : Type 0} → true ≡ false → A
 clash e = absurd (true≢false e)
 
+-- one that cannot say yes says no
+pub never : (t : Bool) → (t ≡ true → ⊥) → t ≡ false
+never true n = absurd (n refl)
+never false n = refl
+
 -- of two tests that hold together, each holds
 pub and-parts : (s t : Bool) → (s && t) ≡ true → (s ≡ true) × (t ≡ true)
 and-parts true t h = (refl, h)

@@ -4,7 +4,7 @@ use mathlib.Core.Path.{_≡_, refl, sym, ap, _∙_}
 use mathlib.Core.Logic.{_⊎_, inl, inr, ⊎-elim}
 use mathlib.Core.Bool.{Bool, true, false, not, _&&_, _||_, xor, and-true, or-false, or-true}
 use mathlib.Core.List.{List, [], _∷_, _++_}
-use Prim.Native.Nat.{ℕ, zero, suc, _+_, _-_, _*_, _/_, _%_, _^_, _≤_, _<_}
+use Prim.Native.Nat.{ℕ, zero, suc, _+_, _-_, _*_, _/_, _%_, _^_, _≤_, _<_, max, min}
 use native.Mathlib.Nat.{zero-add}
 use native.Mathlib.Omega.{arith}
 use lib.Dec.{eqb}
@@ -13,8 +13,8 @@ use lib.Seq.{getD-set-same, getD-set-other, getD-drop, ext-getD}
 use borrow.Author.Tests.{eq-eqb, ne-eqb, eqb-true}
 use Rattle.words.specs.Sets.{pick, From, Ascending, Below, has, merge, difference, intersection, insert, remove, toggle}
 use Rattle.words.specs.Words.{bit, at, onesFrom, members, membersFrom, count, exact, needed, neededFrom, zeros, Words, put, putAt, flip, flips, wordsOf, xors, ands, into}
-use Rattle.words.proofs.Cases.{below-or-not, same-or-not, clash}
-use Rattle.words.proofs.SetLaws.{has-low, has-head, has-append, from-le, from-append, same-members, has-difference, ascending-difference, length-difference, difference-comm, has-intersection, ascending-intersection, has-insert, ascending-insert, has-remove, ascending-remove, has-toggle, ascending-toggle, below-has, has-below, below-le}
+use Rattle.words.proofs.Cases.{below-or-not, same-or-not, clash, never, and-parts}
+use Rattle.words.proofs.SetLaws.{has-low, has-head, has-tail, has-append, from-le, from-append, same-members, has-difference, ascending-difference, length-difference, difference-comm, has-intersection, ascending-intersection, single, has-insert, ascending-insert, has-remove, ascending-remove, has-toggle, ascending-toggle, below-has, has-below, below-le, below-merge}
 use Rattle.words.proofs.BitLaws.{bit-put, bit-xor, bit-and, bit-none, put-lt, same-bits, from-ones, has-ones, has-ones-past}
 use Rattle.words.proofs.RowLaws.{getD-xors, getD-ands, into-is, at-past, exact-is, words-at, words-of, zeros-append, zeros-at, zeros-of, zeros-is, zeros-replicate}
 
@@ -279,10 +279,6 @@ absent-word ws k h none =
     same-bits 64 (getD ws k 0) 0 (words-at ws h k) (omega arith)
     (λ j m. let i = 64 * k + j in
     sym (at-place ws k j m) ∙ sym (has-members ws i) ∙ never (has (members ws) i) (λ t. none i t (omega arith)) ∙ sym (bit-none j))
-  where
-    never : (t : Bool) → (t ≡ true → ⊥) → t ≡ false
-    never true n = absurd (n refl)
-    never false n = refl
 
 -- and the other way round
 pub below-zeros : (k : ℕ) (ws : List ℕ) → Words ws → Below (64 * k) (members ws) → zeros (drop k ws) ≡ true
@@ -294,47 +290,101 @@ zeros-front k ws h = sym (rw (take-append-drop k ws, h, and-true) at (zeros-appe
 
 -- ---- the exact span by members
 
-needed-least : (x : ℕ) (l : List ℕ) → From x l → x / 64 + 1 ≤ neededFrom (x / 64 + 1) l
-unfolding neededFrom From
-needed-least x [] f = omega arith
-needed-least x (y ∷ l) f = omega (arith, f .0, needed-least y l (from-le y (suc y) l (f .1) (omega arith)))
+pub needed-cons : (x : ℕ) (l : List ℕ) → From x l → needed (x ∷ l) ≡ max (x / 64 + 1) (needed l)
+unfolding needed From
+needed-cons x [] f = omega arith
+needed-cons x (y ∷ l) f = omega (arith, f .0, needed-cons y l (from-le y (suc y) l (f .1) (omega arith)))
 
-needed-above : (s b i : ℕ) (l : List ℕ) → From b l → has l i ≡ true → i / 64 < neededFrom s l
-unfolding neededFrom From has
-needed-above s b i [] f h = clash (sym h)
-needed-above s b i (x ∷ l) f h = go (eqb x i) refl (needed-above (x / 64 + 1) (suc x) i l (f .1))
+needed-from : (b : ℕ) (l : List ℕ) → From b l → (i : ℕ) → has l i ≡ true → i / 64 + 1 ≤ needed l
+unfolding From has
+needed-from b [] f i h = clash (sym h)
+needed-from b (x ∷ l) f i h =
+    let most = needed-cons x l (from-le x (suc x) l (f .1) (omega arith)) in
+    ⊎-elim (λ e. omega arith) (λ n. omega (arith, needed-from (suc x) l (f .1) i (sym (has-tail x i l n) ∙ h))) (same-or-not x i)
+
+pub needed-has : (l : List ℕ) → Ascending l → (i : ℕ) → has l i ≡ true → i / 64 + 1 ≤ needed l
+needed-has l f = needed-from 0 l f
+
+-- past it there is none
+pub needed-past : (l : List ℕ) → Ascending l → (i : ℕ) → needed l ≤ i / 64 → has l i ≡ false
+needed-past l f i h = never (has l i) (λ e. omega (arith, needed-has l f i e))
+
+-- it is at most n exactly when every member is below 64 * n
+pub needed-below : (n : ℕ) (l : List ℕ) → Ascending l → needed l ≤ n → Below (64 * n) l
+needed-below n l f h = has-below (64 * n) l (λ i e. omega (arith, needed-has l f i e))
+
+pub below-needed : (n : ℕ) (l : List ℕ) → Below (64 * n) l → needed l ≤ n
+unfolding needed Below
+below-needed n l h = go 0 l (omega arith) h
   where
-    go : (t : Bool) → eqb x i ≡ t → (has l i ≡ true → i / 64 < neededFrom (x / 64 + 1) l) → i / 64 < neededFrom (x / 64 + 1) l
-    go true e rest = omega (arith, eqb-true x i e, needed-least x l (from-le x (suc x) l (f .1) (omega arith)))
-    go false e rest = rest (rw e at h)
+    go : (s : ℕ) (l : List ℕ) → s ≤ n → Below (64 * n) l → neededFrom s l ≤ n
+    go s [] q h = q
+    go s (x ∷ l) q h = go (x / 64 + 1) l (omega (arith, h .0)) (h .1)
 
--- the last member tells: without a member in the last word there is none at all
-needed-last : (s k : ℕ) (l : List ℕ) → k + 1 ≡ neededFrom s l → ((i : ℕ) → has l i ≡ true → i / 64 ≡ k → ⊥) → k + 1 ≡ s
-unfolding neededFrom
-needed-last s k [] e h = e
-needed-last s k (x ∷ l) e h =
-    absurd (h x (has-head x l) (omega (arith, needed-last (x / 64 + 1) k l e (λ i m. h i (has-later x l i m)))))
+-- fewer members need no more
+pub needed-part : (l r : List ℕ) → Ascending r → ((i : ℕ) → has l i ≡ true → has r i ≡ true) → needed l ≤ needed r
+needed-part l r g h = below-needed (needed r) l (has-below (64 * needed r) l (λ i e. omega (arith, needed-has r g i (h i e))))
 
-pub exact-needed : (ws : List ℕ) → Words ws → exact ws ≡ needed (members ws)
+pub needed-merge : (left right both : Bool) (l r : List ℕ) → Ascending l → Ascending r
+    → needed (merge left right both l r) ≤ max (needed l) (needed r)
+needed-merge left right both l r f g =
+    let most = max (needed l) (needed r) in
+    below-needed most (merge left right both l r)
+    (below-merge left right both (64 * most) l r f g (needed-below most l f (omega arith)) (needed-below most r g (omega arith)))
+
+pub needed-intersection : (l r : List ℕ) → Ascending l → Ascending r → needed (intersection l r) ≤ min (needed l) (needed r)
+needed-intersection l r f g =
+    omega (
+      arith,
+      needed-part (intersection l r) l f (λ i e. parts i e .0),
+      needed-part (intersection l r) r g (λ i e. parts i e .1),
+    )
+  where
+    parts : (i : ℕ) → has (intersection l r) i ≡ true → (has l i ≡ true) × (has r i ≡ true)
+    parts i e = and-parts (has l i) (has r i) (sym (has-intersection l r i f g) ∙ e)
+
+pub needed-insert : (i : ℕ) (l : List ℕ) → Ascending l → needed (insert i l) ≡ max (i / 64 + 1) (needed l)
 unfolding needed
+needed-insert i l f =
+    omega (
+      arith,
+      needed-merge true true true (i ∷ []) l (single i) f,
+      needed-has (insert i l) g i (member i (rw (eq-eqb i i refl))),
+      needed-part l (insert i l) g (λ j e. member j (rw e (or-true (eqb i j)))),
+    )
+  where
+    g : Ascending (insert i l)
+    g = ascending-insert i l f
+
+    member : (j : ℕ) → (eqb i j || has l j) ≡ true → has (insert i l) j ≡ true
+    member j e = has-insert i l j f ∙ e
+
+pub needed-remove : (i : ℕ) (l : List ℕ) → Ascending l → needed (remove i l) ≤ needed l
+needed-remove i l f =
+    needed-part (remove i l) l f (λ j e. and-parts (not (eqb i j)) (has l j) (sym (has-remove i l j f) ∙ e) .1)
+
+-- the words' exact span is what their members need
+pub exact-needed : (ws : List ℕ) → Words ws → exact ws ≡ needed (members ws)
 exact-needed ws h = exact-is ws (needed (members ws)) past last
   where
     past : (k : ℕ) → needed (members ws) ≤ k → getD ws k 0 ≡ 0
-    past k l = absent-word ws k h (λ i t e. omega (arith, needed-above 0 0 i (members ws) (ascending-members ws) t))
+    past k l = absent-word ws k h (λ i t e. omega (arith, needed-has (members ws) (ascending-members ws) i t))
+
+    before : (k i : ℕ) → k + 1 ≡ needed (members ws) → getD ws k 0 ≡ 0 → has (members ws) i ≡ true → i < 64 * k
+    before k i e z m =
+        ⊎-elim (λ l. l) (λ l. let d : i / 64 ≡ k = omega (arith, needed-has (members ws) (ascending-members ws) i m) in
+        clash (sym m ∙ has-members ws i ∙ rw (d, z) (bit-none (i % 64)))) (below-or-not i (64 * k))
 
     last : (k : ℕ) → k + 1 ≡ needed (members ws) → getD ws k 0 ≡ 0 → ⊥
-    last k e z =
-        omega (arith, needed-last 0 k (members ws) e (λ i m d. clash (sym m ∙ has-members ws i ∙ rw (d, z) (bit-none (i % 64)))))
+    last k e z = omega (arith, below-needed k (members ws) (has-below (64 * k) (members ws) (λ i. before k i e z)))
 
 -- it is 0 exactly when there is no member
 pub exact-empty : (ws : List ℕ) → Words ws → eqb (exact ws) 0 ≡ eqb (length (members ws)) 0
 unfolding needed
-exact-empty ws h = rw (exact-needed ws h) (go (members ws))
+exact-empty ws h = rw (exact-needed ws h) (go (members ws) (ascending-members ws))
   where
-    some : (s : ℕ) (l : List ℕ) → 0 < neededFrom (s + 1) l
-    some s [] = omega arith
-    some s (x ∷ l) = some (x / 64) l
-
-    go : (l : List ℕ) → eqb (needed l) 0 ≡ eqb (length l) 0
-    go [] = refl
-    go (x ∷ l) = ne-eqb (needed (x ∷ l)) 0 (λ e. omega (arith, some (x / 64) l)) ∙ sym (ne-eqb (suc (length l)) 0 (λ e. omega arith))
+    go : (l : List ℕ) → Ascending l → eqb (needed l) 0 ≡ eqb (length l) 0
+    go [] f = refl
+    go (x ∷ l) f =
+        ne-eqb (needed (x ∷ l)) 0 (λ e. omega (arith, needed-has (x ∷ l) f x (has-head x l)))
+        ∙ sym (ne-eqb (suc (length l)) 0 (λ e. omega arith))

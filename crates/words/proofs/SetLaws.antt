@@ -7,8 +7,8 @@ use mathlib.Core.List.{List, [], _∷_, _++_}
 use Prim.Native.Nat.{ℕ, zero, suc, _+_, _*_, _≤_, _<_, min}
 use native.Mathlib.Omega.{arith}
 use lib.Dec.{eqb}
-use lib.ListN.{length, getD}
-use borrow.Author.Tests.{eq-eqb, ne-eqb, lt-ltb, le-ltb}
+use lib.ListN.{length, getD, take, replicate}
+use borrow.Author.Tests.{eqb-true, eq-eqb, ne-eqb, lt-ltb, le-ltb}
 use Rattle.words.specs.Sets.{pick, keep, From, Ascending, Below, has, same, against, merge, difference, intersection, insert, remove, toggle}
 use Rattle.words.proofs.Cases.{three-ways, below-or-not, same-or-not, clash, and-parts, pick-case, two-tests}
 
@@ -290,6 +290,29 @@ ascending-toggle i l f = ascending-difference (i ∷ []) l (single i) f
 pub length-toggle : (i : ℕ) (l : List ℕ) → Ascending l → length (toggle i l) + 2 * pick (has l i) 1 0 ≡ length l + 1
 length-toggle i l f = omega (arith, length-difference (i ∷ []) l (single i) f, length-one i l f)
 
+-- an absent index is put in, a present one is taken out
+pub toggle-inserts : (i : ℕ) (l : List ℕ) → Ascending l → has l i ≡ false → toggle i l ≡ insert i l
+unfolding xor
+toggle-inserts i l f h =
+    same-members 0 (toggle i l) (insert i l) (ascending-toggle i l f) (ascending-insert i l f)
+    (λ j. has-toggle i l j f ∙ go (eqb i j) (has l j) (λ e. rw (eqb-true i j e) at h) ∙ sym (has-insert i l j f))
+  where
+    go : (s t : Bool) → (s ≡ true → t ≡ false) → xor s t ≡ (s || t)
+    go true t h = rw (h refl)
+    go false true h = refl
+    go false false h = refl
+
+pub toggle-removes : (i : ℕ) (l : List ℕ) → Ascending l → has l i ≡ true → toggle i l ≡ remove i l
+unfolding xor
+toggle-removes i l f h =
+    same-members 0 (toggle i l) (remove i l) (ascending-toggle i l f) (ascending-remove i l f)
+    (λ j. has-toggle i l j f ∙ go (eqb i j) (has l j) (λ e. rw (eqb-true i j e) at h) ∙ sym (has-remove i l j f))
+  where
+    go : (s t : Bool) → (s ≡ true → t ≡ true) → xor s t ≡ (not s && t)
+    go true t h = rw (h refl)
+    go false true h = refl
+    go false false h = refl
+
 -- ---- every element below a bound
 
 pub below-at : (n : ℕ) (l : List ℕ) (k : ℕ) → Below n l → k < length l → getD l k 0 < n
@@ -311,6 +334,22 @@ pub below-le : (m n : ℕ) (l : List ℕ) → Below m l → m ≤ n → Below n 
 unfolding Below
 below-le m n [] f h = tt
 below-le m n (x ∷ l) f h = (omega (arith, f .0), below-le m n l (f .1) h)
+
+pub replicate-below : (n k : ℕ) → 0 < n → Below n (replicate k 0)
+unfolding Below
+replicate-below n zero h = tt
+replicate-below n (suc k) h = (h, replicate-below n k h)
+
+pub below-append : (n : ℕ) (l r : List ℕ) → Below n l → Below n r → Below n (l ++ r)
+unfolding Below
+below-append n [] r f g = g
+below-append n (x ∷ l) r f g = (f .0, below-append n l r (f .1) g)
+
+pub below-take : (n k : ℕ) (l : List ℕ) → Below n l → Below n (take k l)
+unfolding Below
+below-take n zero l f = tt
+below-take n (suc k) [] f = tt
+below-take n (suc k) (x ∷ l) f = (f .0, below-take n k l (f .1))
 
 pub below-merge : (left right both : Bool) (n : ℕ) (l r : List ℕ) → Ascending l → Ascending r → Below n l → Below n r
     → Below n (merge left right both l r)

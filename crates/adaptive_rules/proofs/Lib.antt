@@ -1,0 +1,6 @@
+pub mod Lines
+pub mod RuleLaws
+pub mod ByteLaws
+pub mod CallLaws
+pub mod SequenceLaws
+pub mod Meaning

@@ -1,0 +1,5 @@
+pub mod States
+pub mod Rules
+pub mod Bytes
+pub mod Calls
+pub mod Sequences
