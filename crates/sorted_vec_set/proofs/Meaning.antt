@@ -1,7 +1,7 @@
 -- What each served call makes of membership: the set rules, whatever the bytes. Assumes nothing.
-use mathlib.Core.Path.{_≡_, refl, sym}
+use mathlib.Core.Path.{_≡_, refl}
 use mathlib.Core.Bool.{Bool, true, false, not, _&&_, _||_, xor}
-use mathlib.Core.List.{List, [], _∷_}
+use mathlib.Core.List.{List}
 use Prim.Native.Nat.{ℕ}
 use native.Mathlib.Omega.{arith}
 use lib.Dec.{eqb, leb}
@@ -10,7 +10,7 @@ use borrow.Author.Tests.{eqb-true, eqb-false}
 use Rattle.words.specs.Sets.{pick, has}
 use Rattle.words.proofs.SetLaws.{ascending-difference, ascending-intersection, has-insert, has-remove, has-toggle, has-difference, has-intersection}
 use Rattle.ascending.proofs.RowLaws.{take-row}
-use Rattle.sorted_vec_set.specs.Calls.{Bytes, Outcome, members, encode, refused, result, inserting, removing, toggling, clearing, singling, xoring, xoringShared, xoringUnshared}
+use Rattle.sorted_vec_set.specs.Calls.{Bytes, Outcome, members, encode, refused, result, inserting, removing, toggling, xoring, xoringShared, xoringUnshared}
 use Rattle.sorted_vec_set.proofs.States.{none-ascending, two-ascending, three-ascending}
 
 -- a served call was refused by no number, and leaves the members that it was asked for

@@ -1,12 +1,11 @@
 -- What the calls on one sound set leave and answer, path by path. Assumes nothing.
 use mathlib.Core.Path.{_≡_, refl, sym, ap, _∙_}
 use mathlib.Core.List.{List, [], _∷_, _++_}
-use Prim.Native.Nat.{ℕ, _+_, _-_, _≤_, _<_}
+use Prim.Native.Nat.{ℕ, _+_, _-_, _<_}
 use native.Mathlib.Omega.{arith}
 use lib.Dec.{eqb}
 use lib.ListN.{length, take, drop, replicate, length-drop, length-replicate}
 use lib.Seq.{length-take-le, length-front, drop-drop}
-use Rattle.words.specs.Sets.{has}
 use Rattle.words.specs.Words.{zeros}
 use Rattle.words.proofs.RowLaws.{zeros-append, zeros-drop, zeros-replicate}
 use Rattle.answers.specs.declared.Answer.{Answer}
@@ -23,7 +22,7 @@ use Rattle.ascending.proofs.PlaceLaws.{length-insert-at, length-remove-at}
 use Rattle.ascending.proofs.RowLaws.{row-of, row-is}
 use Rattle.sorted_vec_set.specs.declared.SortedVecSet.{SortedVecSet}
 use Rattle.sorted_vec_set.specs.declared.Reply.{Reply}
-use Rattle.sorted_vec_set.specs.Calls.{members, judged, result, clearing, singling, told, containing, counting, emptiness, bytesOf, left, Sound}
+use Rattle.sorted_vec_set.specs.Calls.{members, judged, result, clearing, told, containing, counting, emptiness, bytesOf, left, Sound}
 use Rattle.sorted_vec_set.proofs.Outcomes.{sound-none, lacking-left, served-left}
 
 pub count-is : {set : SortedVecSet} {es : List ℕ} → Sound set es → length (take (set .count) es) ≡ set .count

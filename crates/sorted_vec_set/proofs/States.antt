@@ -1,13 +1,13 @@
 -- Members and bytes: the members and the room fix every byte, and every call leaves a set in range and sound that was so,
 -- whatever its operands hold. Assumes nothing.
 use mathlib.Core.Path.{_≡_, sym, ap₂, _∙_}
-use mathlib.Core.Bool.{Bool, true}
+use mathlib.Core.Bool.{true}
 use mathlib.Core.List.{List, [], _∷_}
 use Prim.Native.Nat.{ℕ, _≤_}
 use native.Mathlib.Numerals.{unary-clauses}
 use native.Mathlib.Omega.{arith}
 use lib.Dec.{eqb, leb}
-use lib.ListN.{length, take, drop}
+use lib.ListN.{length, drop}
 use lib.Seq.{length-take-le}
 use borrow.Author.Tests.{eqb-true, le-leb, leb-true}
 use Rattle.words.specs.Sets.{From, Ascending}
