@@ -13,9 +13,10 @@ use Rattle.words.specs.Sets.{pick, From, Ascending, has}
 use Rattle.words.proofs.Cases.{three-ways, clash, pick-case}
 use Rattle.words.proofs.SetLaws.{has-low, has-tail}
 use Rattle.words.proofs.LoopLaws.{tail, rest-is}
+use Rattle.answers.specs.Answers.{truth}
 use Rattle.ascending.specs.declared.search.Found.{Found}
 use Rattle.ascending.specs.declared.search.Found.the-variants.{At, Absent}
-use Rattle.ascending.specs.Search.{place, found, present, placeOf, later}
+use Rattle.ascending.specs.Search.{place, found, present, placeOf, later, told}
 use Rattle.ascending.proofs.OrderLaws.{from-at, from-take}
 
 -- ---- one element in front
@@ -125,3 +126,9 @@ module _ (x : ℕ) (l : List ℕ) {p : ℕ} where
   found-absent e =
       let at : place x l ≡ p = sym (found-place x l) ∙ ap placeOf e in
       record { is = sym (found-present x l) ∙ ap present e; at = at; within = omega (arith, place-le x l) }
+
+-- as an answer of document 01, it is whether the element is there
+pub told-is : (f : Found) → told f ≡ record { number = 0; value = truth (present f) }
+unfolding told truth present
+told-is (At p) = refl
+told-is (Absent p) = refl

@@ -4,6 +4,7 @@ use mathlib.Core.List.{List, [], _∷_}
 use Prim.Native.Nat.{ℕ, suc, _+_}
 use lib.Dec.{ltb}
 use Rattle.words.specs.Sets.{pick, has}
+use Rattle.answers.specs.declared.Answer.{Answer}
 use Rattle.ascending.specs.declared.search.Found.{Found}
 use Rattle.ascending.specs.declared.search.Found.the-variants.{At, Absent}
 
@@ -31,3 +32,8 @@ placeOf (Absent p) = p
 unfoldable pub later : ℕ → Found → Found
 later n (At p) = At (n + p)
 later n (Absent p) = Absent (n + p)
+
+-- what a search's answer comes to as an answer of document 01: "Yes is 1"
+unfoldable pub told : Found → Answer
+told (At place) = record { number = 0; value = 1 }
+told (Absent place) = record { number = 0; value = 0 }

@@ -1,7 +1,10 @@
-// A scan over a whole run of keys. It is not left early: a run without branches is what processors do fastest.
+// Scans over whole runs of keys. None is left early: a run without branches is what processors do fastest.
 ghost use mathlib.Core.Path.{_≡_};
 ghost use mathlib.Core.Bool.{not};
+ghost use Prim.Native.Nat.{_≤_};
 ghost use lib.Dec.{ltb};
+ghost use lib.ListN.{length, drop};
+ghost use Rattle.words.specs.Words.{zeros};
 ghost use Rattle.ascending.specs.Order.{ascends};
 
 fn not_above(x: u32, y: u32) -> bool
@@ -21,4 +24,18 @@ pub fn ascending(keys: &[u32]) -> bool
         i += 1;
     }
     !fails
+}
+
+// Whether all keys from a place on are 0.
+pub fn zero_from(keys: &[u32], place: usize) -> bool
+    requires { ⌜ place ≤ length (now keys) ⌝ }
+    ensures { λ r. ⌜ r ≡ zeros (drop place (now (keys .entry))) ⌝ }
+{
+    let mut any = 0;
+    let mut i = place;
+    while i < keys.len() {
+        any |= keys[i];
+        i += 1;
+    }
+    any == 0
 }

@@ -21,7 +21,7 @@ pub fn copy(from: &[u32], to: &mut [u32], place: usize) -> usize
 }
 
 // Sets all keys to 0.
-fn clear_all(keys: &mut [u32])
+pub fn clear_all(keys: &mut [u32])
     ensures { λ r. ⌜ now (keys .exit) ≡ replicate (length (now (keys .entry))) 0 ⌝ }
 {
     let mut i = 0;

@@ -38,8 +38,10 @@ second h = record { answer = h .answer; bytes = h .to }
 
 abbrev cases : List Case
 cases =
+    -- a fresh set over any contents
+    leaves (preparing (7 ∷ 8 ∷ [])) 0 0 0 (0 ∷ 0 ∷ [])
     -- before all others, between them, behind them; one that is there changes nothing, even where there is no room
-    leaves (inserting 1 (over 2 (3 ∷ 7 ∷ 0 ∷ []))) 0 1 3 (1 ∷ 3 ∷ 7 ∷ [])
+    ∷ leaves (inserting 1 (over 2 (3 ∷ 7 ∷ 0 ∷ []))) 0 1 3 (1 ∷ 3 ∷ 7 ∷ [])
     ∷ leaves (inserting 5 (over 2 (3 ∷ 7 ∷ 0 ∷ []))) 0 1 3 (3 ∷ 5 ∷ 7 ∷ [])
     ∷ leaves (inserting 18446744073709551615 (over 2 (3 ∷ 7 ∷ 0 ∷ []))) 0 1 3 (3 ∷ 7 ∷ 18446744073709551615 ∷ [])
     ∷ leaves (inserting 7 (over 2 (3 ∷ 7 ∷ []))) 0 0 2 (3 ∷ 7 ∷ [])
@@ -64,8 +66,9 @@ cases =
     ∷ leaves (reading (countingShared (over 3 (2 ∷ 4 ∷ 6 ∷ []))) (over 2 (4 ∷ 6 ∷ []))) 0 2 2 (4 ∷ 6 ∷ [])
     ∷ leaves (reading counting (over 2 (4 ∷ 6 ∷ 0 ∷ []))) 0 2 2 (4 ∷ 6 ∷ 0 ∷ [])
     ∷ leaves (reading emptiness (over 1 (0 ∷ 0 ∷ []))) 0 0 1 (0 ∷ 0 ∷ [])
-    -- equal sets in rooms of other lengths; 0 as a member, and 0 as room
+    -- equal sets in rooms of other lengths; equal counts of other elements; 0 as a member, and 0 as room
     ∷ leaves (reading (comparing (over 1 (4 ∷ 0 ∷ []))) (over 1 (4 ∷ []))) 0 1 1 (4 ∷ [])
+    ∷ leaves (reading (comparing (over 1 (4 ∷ []))) (over 1 (5 ∷ []))) 0 0 1 (5 ∷ [])
     ∷ leaves (reading (comparing (over 1 (0 ∷ 0 ∷ []))) (over 0 (0 ∷ 0 ∷ []))) 0 0 0 (0 ∷ 0 ∷ [])
     -- handed over, the old elements lost; and 5 by the second set's room
     ∷ leaves (first (taking (over 2 (3 ∷ 7 ∷ 0 ∷ [])) (over 3 (1 ∷ 2 ∷ 9 ∷ [])))) 0 0 0 (0 ∷ 0 ∷ 0 ∷ [])
@@ -76,13 +79,16 @@ cases =
     ∷ leaves (inserting 5 (over 2 (3 ∷ 7 ∷ []))) 5 0 2 (3 ∷ 7 ∷ [])
     ∷ leaves (singling 9 (over 0 [])) 5 0 0 []
     -- 2 by a count above the room, by an element not above the one before, by one behind the count that is not 0, and by an
-    -- operand's, which comes before 5; the set that `take_clearing` fills is judged although its elements are lost
+    -- operand's, which comes before 5; a read is judged too, and so is the set that `take_clearing` fills, although its elements
+    -- are lost
     ∷ leaves (clearing (over 3 (1 ∷ 2 ∷ []))) 2 0 3 (1 ∷ 2 ∷ [])
     ∷ leaves (clearing (over 2 (2 ∷ 2 ∷ []))) 2 0 2 (2 ∷ 2 ∷ [])
     ∷ leaves (clearing (over 1 (1 ∷ 2 ∷ []))) 2 0 1 (1 ∷ 2 ∷ [])
     ∷ leaves (xoring (over 1 (5 ∷ [])) (over 2 (7 ∷ 6 ∷ []))) 2 0 1 (5 ∷ [])
+    ∷ leaves (reading (containing 6) (over 2 (7 ∷ 6 ∷ []))) 2 0 2 (7 ∷ 6 ∷ [])
     ∷ leaves (second (taking (over 1 (5 ∷ [])) (over 2 (7 ∷ 6 ∷ [])))) 2 0 2 (7 ∷ 6 ∷ [])
-    -- 1 by one element too many, whatever they hold, which comes before 2
+    -- 8,192 elements are served; 1 by one too many, whatever they hold, which comes before 2
+    ∷ leaves (preparing (replicate 8192 7)) 0 0 0 (replicate 8192 0)
     ∷ leaves (preparing (replicate 8193 7)) 1 0 0 (replicate 8193 7)
     ∷ leaves (clearing (over 9000 (replicate 8193 7))) 1 0 9000 (replicate 8193 7)
     ∷ []

@@ -13,16 +13,15 @@ use Rattle.answers.specs.Answers.{truth}
 use Rattle.answers.specs.Judging.{verdict}
 use Rattle.answers.proofs.Answering.{served-answer}
 use Rattle.ascending.specs.declared.search.Found.{Found}
-use Rattle.ascending.specs.declared.search.Found.the-variants.{At, Absent}
 use Rattle.ascending.specs.Order.{row}
-use Rattle.ascending.specs.Search.{found, present}
+use Rattle.ascending.specs.Search.{found, present, told}
 use Rattle.ascending.specs.Places.{insertAt, removeAt}
-use Rattle.ascending.proofs.SearchLaws.{Stands, Lacks, found-present}
+use Rattle.ascending.proofs.SearchLaws.{Stands, Lacks, found-present, told-is}
 use Rattle.ascending.proofs.PlaceLaws.{length-insert-at, length-remove-at}
 use Rattle.ascending.proofs.RowLaws.{row-of, row-is}
 use Rattle.sorted_vec_set.specs.declared.SortedVecSet.{SortedVecSet}
 use Rattle.sorted_vec_set.specs.declared.Reply.{Reply}
-use Rattle.sorted_vec_set.specs.Calls.{members, judged, result, clearing, told, containing, counting, emptiness, bytesOf, left, Sound}
+use Rattle.sorted_vec_set.specs.Calls.{members, judged, result, clearing, containing, counting, emptiness, bytesOf, left, Sound}
 use Rattle.sorted_vec_set.proofs.Outcomes.{sound-none, lacking-left, served-left}
 
 pub count-is : {set : SortedVecSet} {es : List ℕ} → Sound set es → length (take (set .count) es) ≡ set .count
@@ -84,11 +83,6 @@ cleared-left {set} {es} {front} h e q =
     served-left set es (front ++ drop (set .count) es) [] (sound-none h) (omega arith) (emptied-is h e) refl refl q
 
 -- ---- reading
-
-told-is : (f : Found) → told f ≡ record { number = 0; value = truth (present f) }
-unfolding told truth present
-told-is (At p) = refl
-told-is (Absent p) = refl
 
 pub contained-answer : (x : ℕ) {set : SortedVecSet} {es : List ℕ} {f : Found} {r : Answer} → Sound set es
     → f ≡ found x (take (set .count) es) → r ≡ told f → r ≡ containing x (bytesOf set es)

@@ -12,8 +12,6 @@ use Rattle.words.specs.Words.{zeros}
 use Rattle.answers.specs.declared.Answer.{Answer}
 use Rattle.answers.specs.Answers.{truth, answered}
 use Rattle.answers.specs.Judging.{Judged, verdict}
-use Rattle.ascending.specs.declared.search.Found.{Found}
-use Rattle.ascending.specs.declared.search.Found.the-variants.{At, Absent}
 use Rattle.ascending.specs.Order.{ascends, row}
 use Rattle.sorted_vec_set.specs.declared.SortedVecSet.{SortedVecSet}
 use Rattle.sorted_vec_set.specs.declared.Reply.{Reply}
@@ -121,11 +119,6 @@ taking b o =
     }
 
 -- ---- the reads
-
--- what a search's answer comes to as an answer of document 01: "Yes is 1"
-unfoldable pub told : Found → Answer
-told (At place) = record { number = 0; value = 1 }
-told (Absent place) = record { number = 0; value = 0 }
 
 unfoldable pub containing : ℕ → Bytes → Answer
 containing x b = answered (verdict (judged b ∷ [])) (truth (has (members b) x))

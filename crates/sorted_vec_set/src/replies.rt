@@ -2,22 +2,9 @@
 use crate::Reply;
 use crate::SortedVecSet;
 use crate::Taken;
-use answers::Answer;
 use answers::give::answer;
 use answers::give::refusal;
-use ascending::search::Found;
 ghost use mathlib.Core.Path.{_≡_};
-ghost use Rattle.sorted_vec_set.specs.Calls.{told};
-
-// What a search's answer comes to as an answer: whether the element is there.
-pub fn told(found: Found) -> Answer
-    ensures { λ r. ⌜ r ≡ told found ⌝ }
-{
-    let Found::At(_) = found else {
-        return answer(0);
-    };
-    answer(1)
-}
 
 // Served, with a value and the target's new count.
 pub fn serve(value: u64, count: usize) -> Reply

@@ -1,10 +1,10 @@
--- `sorted_vec_set::replies::told` meets its contract.
+-- `ascending::search::told` meets its contract.
 use borrow.Author.Needs.{needs}
 use mathlib.Core.Path.{sym, _∙_}
 use mathlib.Core.Path.{ap}
-use Rattle.sorted_vec_set.specs.Calls.{told}
-use Rattle.sorted_vec_set.proofs.replies.told.Statement.{statement}
-use Rattle.sorted_vec_set.proofs.replies.told.Tie as tie
+use Rattle.ascending.specs.Search.{told}
+use Rattle.ascending.proofs.search.told.Statement.{statement}
+use Rattle.ascending.proofs.search.told.Tie as tie
 
 pub told-spec : {M : Type 1} → statement M
 unfolding told
