@@ -1,11 +1,12 @@
 -- What a call's result comes to: refused by the first number that is not 0, with everything as it was; or served, and then every set
 -- it names is in range and sound, its index is lawful and the state that it leaves fits. Assumes nothing.
-use mathlib.Core.Path.{_≡_, refl, _∙_}
+use mathlib.Core.Path.{_≡_, refl, sym, _∙_}
 use mathlib.Core.Logic.{⊎-elim}
 use mathlib.Core.Bool.{Bool, true, false}
 use mathlib.Core.List.{List, [], _∷_, _++_, map}
 use Prim.Native.Nat.{ℕ}
 use native.Mathlib.Omega.{arith}
+use lib.Dec.{eqb}
 use lib.ListN.{length}
 use borrow.Author.Tests.{eq-eqb, ne-eqb}
 use Rattle.words.specs.Sets.{pick}
@@ -33,6 +34,17 @@ first-served (r ∷ rs) a e =
     ⊎-elim
     (λ z. let rest = first-served rs a (rw (eq-eqb (r .number) 0 z) at e) in ((z, rest .0), rest .1))
     (λ n. absurd (n (rw (ne-eqb (r .number) 0 n) at e))) (same-or-not (r .number) 0)
+
+-- where one refuses, it is given whatever the answer would have been
+pub first-refused : (rs : List Answer) (a x : Answer) → a .number ≡ 0 → (first rs a .number ≡ 0 → ⊥) → first rs x ≡ first rs a
+unfolding first
+first-refused [] a x z h = absurd (h z)
+first-refused (r ∷ rs) a x z h = go (eqb (r .number) 0) h (first-refused rs a x z)
+  where
+    go : (t : Bool) → (pick t (first rs a) r .number ≡ 0 → ⊥) → ((first rs a .number ≡ 0 → ⊥) → first rs x ≡ first rs a)
+        → pick t (first rs x) r ≡ pick t (first rs a) r
+    go true h rest = rest h
+    go false h rest = refl
 
 none-append : (l r : List Answer) → None (l ++ r) → None l × None r
 unfolding None
@@ -86,7 +98,8 @@ judged-none c b h = let parts = sound-none (b ∷ operands c) h in append-none (
 
 -- ---- a call's result
 
-abbrev given : Call Bytes → Bytes → Answer
+-- its answer on the states that the sets hold
+abbrev pub given : Call Bytes → Bytes → Answer
 given c b = answer (length (b .words)) (length (b .keys)) (viewed c) (view b)
 
 pub record Served (c : Call Bytes) (b : Bytes) : Type 0 where
@@ -120,3 +133,22 @@ pub read-same : (c : Call Bytes) (b : Bytes) → effect (viewed c) (view b) ≡ 
 unfolding written
 read-same c b k =
     ⊎-elim (λ e. served c b e .bytes ∙ rw k) (λ n. refused-same c b n) (same-or-not (result c b .answer .number) 0)
+
+-- over sound sets, a call answers as on the states that they hold
+pub sound-answer : (c : Call Bytes) (b : Bytes) → AllSound (b ∷ operands c) → result c b .answer ≡ given c b
+unfolding result
+sound-answer c b h = first-none (judged c b) (given c b) (judged-none c b h)
+
+-- ---- a call on one set
+
+-- what its check refuses with is what the call answers, and where it refuses nothing the set is sound
+module _ (b : Bytes) {r : Answer} (e : r ≡ first (range b ∷ verdict b ∷ []) (refusal 0)) where
+  pub refused-answer : (c : Call Bytes) → operands c ≡ [] → (r .number ≡ 0 → ⊥) → r ≡ result c b .answer
+  unfolding result judged refusal
+  refused-answer c o h = e ∙ sym (rw o (first-refused (range b ∷ verdict b ∷ []) (refusal 0) (given c b) refl (λ z. h (rw e z))))
+
+  pub answer-sound : r .number ≡ 0 → Sound b
+  unfolding None
+  answer-sound z =
+      let none = first-served (range b ∷ verdict b ∷ []) (refusal 0) (rw e at z) .0 in
+      record { inRange = range-in b (none .0); sound = verdict-sound b (none .1 .0) }

@@ -1,0 +1,4 @@
+pub mod CheckLaws
+pub mod StorageLaws
+pub mod ReadLaws
+pub mod WriteLaws
