@@ -3,6 +3,8 @@
 // The header goes in and comes back by value, in the reply. Every call is total: what can't be served is refused under
 // document 01's numbers and changes nothing. A call checks its sets, which is linear in their words and keys, and then does the
 // work; for sets that are known to be sound, module `checked` has the same calls without the check.
+#![tactic(auto)]
+
 ghost use Rattle.std.specs.Prelude.{◌≡◌};
 ghost use Rattle.adaptive_rules.specs.Calls.{containing, counting, emptiness, clearing, result_of, preparing};
 ghost use Rattle.adaptive_index_set.specs.Contract.{bytes_of, left};

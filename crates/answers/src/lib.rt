@@ -1,4 +1,6 @@
 // What every call answers: a number of document 01's table, and a value.
+#![tactic(auto)]
+
 pub mod give;
 pub mod judge;
 

@@ -1,5 +1,7 @@
 // Counts and exact spans of rows combined by AND and XOR, by reading alone: what a call decides with before it writes.
 // One routine for each kind of operand. Rows differ in length; past its end a row is 0.
+#![tactic(auto)]
+
 ghost use Rattle.std.specs.Prelude.{◌≡◌, ◌≤◌, length};
 ghost use Rattle.words.specs.Words.{count, exact, ands, xors};
 

@@ -1,4 +1,6 @@
 // What the replays of recorded histories have in common, whatever set they replay. oracle/README.md has the format.
+#![tactic(auto)]
+
 pub mod line;
 pub mod print;
 

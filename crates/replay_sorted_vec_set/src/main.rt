@@ -2,6 +2,8 @@
 // sets, and a line of standard output answers it. The file stdout has the Rust's answers; oracle/README.md the format.
 //
 // Nothing judges the input: a line that is none of a history is answered somehow, and the comparison fails.
+#![tactic(auto)]
+
 mod answer;
 mod calls;
 

@@ -3,6 +3,8 @@
 // The header goes in and comes back by value, in the reply. Every call is total: what can't be served is refused under
 // document 01's numbers and changes nothing. A call judges its sets, which is linear in their elements, and then does the
 // work; for sets that are known to be sound, module `checked` has the same calls without the judging.
+#![tactic(auto)]
+
 ghost use Rattle.std.specs.Prelude.{◌≡◌};
 ghost use Rattle.sorted_vec_set.specs.Calls.{bytes_of, left, handed, preparing, inserting, removing, toggling, clearing, singling, xoring, xoring_shared, xoring_unshared, taking, containing, counting, emptiness, counting_shared, comparing};
 

@@ -1,4 +1,6 @@
 // The functions of `words` on document 01's own numbers: 2047, 2048, 5000, and {0..15} with 2048.
+#![tactic(auto)]
+
 ghost use Rattle.std.specs.Prelude.{◌≡◌, ◌≤◌, length};
 
 use words::{keys, row, word, write};

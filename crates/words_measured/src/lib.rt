@@ -1,4 +1,6 @@
 // Functions of `words` and `combined` under C names, for bench/ alone: each is the function itself on at most 8,192 words.
+#![tactic(auto)]
+
 ghost use Rattle.std.specs.Prelude.{◌≡◌, ◌≤◌, length};
 ghost use Rattle.words.specs.Words.{count, exact, zeros, ands, xors, into};
 
