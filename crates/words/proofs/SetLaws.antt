@@ -317,6 +317,7 @@ toggle_removes i l f h =
 
 pub below_at : (n : ℕ) (l : List ℕ) (k : ℕ) → Below n l → k < length l → get_or l k 0 < n
 unfolding Below
+below_at n [] k f h = elim h [ ]
 below_at n (x ∷ l) zero f h = f.0
 below_at n (x ∷ l) (suc k) f h = below_at n l k f.1 (omega arith)
 

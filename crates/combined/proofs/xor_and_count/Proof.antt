@@ -18,9 +18,9 @@ abbrev μ : tie.decreases-loop
 rests : (c : tie.After-and-count Inv μ)
     → let s = c.before.before.before.before.before.before.before in
     let g = s.before.before.before.before.before.args in
-    Rest count (xors g.c.now (ands g.a.now g.b.now)) s.shorter2.result (c.before.before.before.count-all.result + c.and-count.result)
+    Rest count (xors g.c.now (ands g.a.now g.b.now)) s.shorter-k.result (c.before.before.before.count_all.result + c.and_count.result)
 rests c =
-    rest-xors count_none (simp length-ands (cc)) (rest-row c.before.before.before.count-all.ensures) (rest-ands _ _ c.and-count.ensures)
+    rest-xors count_none (simp length-ands (cc)) (rest-row c.before.before.before.count_all.ensures) (rest-ands _ _ c.and_count.ensures)
 
 pub xor_and_count_spec : {M : Type 1} → statement M
 xor_and_count_spec = tie.close (tie.spec Inv μ
@@ -28,12 +28,12 @@ xor_and_count_spec = tie.close (tie.spec Inv μ
     (λ c. counted_begin)
     (λ c. search rules) (λ c. search rules) (λ c. search rules) (λ c. search rules) (λ c. search rules) (λ c. search rules)
     (λ c κs. search rules)
-    (λ c. omega (arith, word_count-le _ c.count.ensures))
+    (λ c. omega (arith, word_count-le _ c.count-n.ensures))
     (λ c. search rules) (λ c. search rules)
-    (λ c. counted_next c.before.before.before.before.before.loop.invariant (search rules) (simp (get_or-xors, get_or-ands)) c.count.ensures)
+    (λ c. counted_next c.before.before.before.before.before.loop-i.invariant (search rules) (simp (get_or-xors, get_or-ands)) c.count-n.ensures)
     (λ c. search rules) (λ c. search rules) (λ c. search rules) (λ c. search rules) (λ c κs. search rules)
     (λ c. search rules) (λ c. search rules) (λ c. search rules) (λ c. search rules)
     (λ c. search rules) (λ c. search rules) (λ c. search rules) (λ c. search rules) (λ c κs. search rules)
     (λ c. omega (arith, simp (length-xors, length-ands) at (rest-count-le (rests c))))
     (λ c. omega (arith, simp (length-xors, length-ands) at (rest-count-le (rests c))))
-    (λ c. counted-rest c.before.before.before.before.before.before.loop.invariant (search rules) (rests c)))
+    (λ c. counted-rest c.before.before.before.before.before.before.loop-i.invariant (search rules) (rests c)))

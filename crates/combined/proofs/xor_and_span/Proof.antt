@@ -18,9 +18,9 @@ abbrev μ : tie.decreases-loop
 rests : (c : tie.After-and-span Inv μ)
     → let s = c.before.before.before.before.before in
     let g = s.before.before.before.before.before.args in
-    Rest exact (xors g.c.now (ands g.a.now g.b.now)) s.shorter2.result (c.before.before.before.exact-span.result + c.and-span.result)
+    Rest exact (xors g.c.now (ands g.a.now g.b.now)) s.shorter-k.result (c.before.before.before.exact_span.result + c.and_span.result)
 rests c =
-    rest-xors exact_none (simp length-ands (cc)) (rest-row c.before.before.before.exact-span.ensures) (rest-ands _ _ c.and-span.ensures)
+    rest-xors exact_none (simp length-ands (cc)) (rest-row c.before.before.before.exact_span.ensures) (rest-ands _ _ c.and_span.ensures)
 
 pub xor_and_span_spec : {M : Type 1} → statement M
 xor_and_span_spec = tie.close (tie.spec Inv μ
@@ -30,11 +30,11 @@ xor_and_span_spec = tie.close (tie.spec Inv μ
     (λ c. search rules) (λ c. search rules) (λ c. search rules) (λ c. search rules) (λ c κs. search rules)
     (λ c. omega (arith, simp (length-xors, length-ands) at (rest-exact-le (rests c))))
     (λ c. omega (arith, simp (length-xors, length-ands) at (rest-exact-le (rests c.before))))
-    (λ c. exact-rest (rests c.before) c.if1.true)
+    (λ c. exact-rest (rests c.before) c.if-rest-gt0.true)
     (λ c. clear-rest (rests c.before) (search rules))
     (λ c. search rules) (λ c. search rules) (λ c. search rules) (λ c. search rules) (λ c. search rules) (λ c. search rules)
     (λ c. search rules) (λ c. search rules) (λ c. search rules)
-    (λ c. clear-found c.before.before.before.before.before.loop.invariant (search rules) (simp (get_or-xors, get_or-ands)) c.if2.true)
+    (λ c. clear-found c.before.before.before.before.before.loop-n.invariant (search rules) (simp (get_or-xors, get_or-ands)) c.if-c-n-ne0.true)
     (λ c. search rules) (λ c. search rules)
-    (λ c. clear_next c.before.before.before.before.before.loop.invariant (search rules) (simp (get_or-xors, get_or-ands)) c.if2.false)
+    (λ c. clear_next c.before.before.before.before.before.loop-n.invariant (search rules) (simp (get_or-xors, get_or-ands)) c.if-c-n-ne0.false)
     (λ c. search rules))

@@ -18,19 +18,19 @@ abbrev μ : tie.decreases-loop
 rests : (c : tie.After-count-all2 Inv μ)
     → let s = c.before.before.before.before.before.before in
     let g = s.before.before.before.args in
-    Rest count (xors g.a.now g.b.now) s.shorter.result (c.before.before.count-all.result + c.count-all2.result)
-rests c = rest-xors count_none (search rules) (rest-row c.before.before.count-all.ensures) (rest-row c.count-all2.ensures)
+    Rest count (xors g.a.now g.b.now) s.shorter-k.result (c.before.before.count_all.result + c.count_all-2.result)
+rests c = rest-xors count_none (search rules) (rest-row c.before.before.count_all.ensures) (rest-row c.count_all-2.ensures)
 
 pub xor_count_spec : {M : Type 1} → statement M
 xor_count_spec = tie.close (tie.spec Inv μ
     (λ c κs. search rules)
     (λ c. counted_begin)
     (λ c. search rules) (λ c. search rules) (λ c. search rules) (λ c. search rules) (λ c κs. search rules)
-    (λ c. omega (arith, word_count-le _ c.count.ensures))
+    (λ c. omega (arith, word_count-le _ c.count-n.ensures))
     (λ c. search rules) (λ c. search rules)
-    (λ c. counted_next c.before.before.before.before.loop.invariant (search rules) (get_or-xors _ _ _) c.count.ensures)
+    (λ c. counted_next c.before.before.before.before.loop-i.invariant (search rules) (get_or-xors _ _ _) c.count-n.ensures)
     (λ c. search rules) (λ c. search rules) (λ c. search rules) (λ c. search rules) (λ c κs. search rules)
     (λ c. search rules) (λ c. search rules) (λ c. search rules) (λ c. search rules) (λ c κs. search rules)
     (λ c. omega (arith, simp length-xors at (rest-count-le (rests c))))
     (λ c. omega (arith, simp length-xors at (rest-count-le (rests c))))
-    (λ c. counted-rest c.before.before.before.before.before.loop.invariant (search rules) (rests c)))
+    (λ c. counted-rest c.before.before.before.before.before.loop-i.invariant (search rules) (rests c)))

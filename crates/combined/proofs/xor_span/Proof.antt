@@ -18,8 +18,8 @@ abbrev μ : tie.decreases-loop
 rests : (c : tie.After-exact-span2 Inv μ)
     → let s = c.before.before.before.before in
     let g = s.before.before.before.args in
-    Rest exact (xors g.a.now g.b.now) s.shorter.result (c.before.before.exact-span.result + c.exact-span2.result)
-rests c = rest-xors exact_none (search rules) (rest-row c.before.before.exact-span.ensures) (rest-row c.exact-span2.ensures)
+    Rest exact (xors g.a.now g.b.now) s.shorter-k.result (c.before.before.exact_span.result + c.exact_span-2.result)
+rests c = rest-xors exact_none (search rules) (rest-row c.before.before.exact_span.ensures) (rest-row c.exact_span-2.ensures)
 
 pub xor_span_spec : {M : Type 1} → statement M
 xor_span_spec = tie.close (tie.spec Inv μ
@@ -28,10 +28,10 @@ xor_span_spec = tie.close (tie.spec Inv μ
     (λ c. search rules) (λ c. search rules) (λ c. search rules) (λ c. search rules) (λ c κs. search rules)
     (λ c. omega (arith, simp length-xors at (rest-exact-le (rests c))))
     (λ c. omega (arith, simp length-xors at (rest-exact-le (rests c.before))))
-    (λ c. exact-rest (rests c.before) c.if1.true)
+    (λ c. exact-rest (rests c.before) c.if-rest-gt0.true)
     (λ c. clear-rest (rests c.before) (search rules))
     (λ c. search rules) (λ c. search rules) (λ c. search rules) (λ c. search rules) (λ c. search rules) (λ c. search rules)
-    (λ c. clear-found c.before.before.before.before.loop.invariant (search rules) (get_or-xors _ _ _) c.if2.true)
+    (λ c. clear-found c.before.before.before.before.loop-n.invariant (search rules) (get_or-xors _ _ _) c.if-a-n-ne0.true)
     (λ c. search rules) (λ c. search rules)
-    (λ c. clear_next c.before.before.before.before.loop.invariant (search rules) (get_or-xors _ _ _) c.if2.false)
+    (λ c. clear_next c.before.before.before.before.loop-n.invariant (search rules) (get_or-xors _ _ _) c.if-a-n-ne0.false)
     (λ c. search rules))

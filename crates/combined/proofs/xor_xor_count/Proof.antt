@@ -20,11 +20,11 @@ abbrev μ : tie.decreases-loop
 rests : (c : tie.Joined1 Inv μ)
     → let s = c.before.before.before in
     let g = s.before.before.before.before.before.args in
-    Rest count (xors g.c.now (xors g.a.now g.b.now)) s.shorter2.result c.if1.rest
+    Rest count (xors g.c.now (xors g.a.now g.b.now)) s.shorter-k.result c.if-k-c.rest
 rests c =
     ⊎_elim (λ w. rest-first _ _ _ (search rules) (w.4 ∙ w.3.ensures))
     (⊎_elim (λ w. rest-second _ _ _ (search rules) (w.5 ∙ w.4.ensures)) (λ w. rest-third _ _ _ (search rules) (w.5 ∙ w.4.ensures)))
-    c.if1.branch
+    c.if-k-c.branch
 
 pub xor_xor_count_spec : {M : Type 1} → statement M
 xor_xor_count_spec = tie.close (tie.spec Inv μ
@@ -32,9 +32,9 @@ xor_xor_count_spec = tie.close (tie.spec Inv μ
     (λ c. counted_begin)
     (λ c. search rules) (λ c. search rules) (λ c. search rules) (λ c. search rules) (λ c. search rules) (λ c. search rules)
     (λ c κs. search rules)
-    (λ c. omega (arith, word_count-le _ c.count.ensures))
+    (λ c. omega (arith, word_count-le _ c.count-n.ensures))
     (λ c. search rules) (λ c. search rules)
-    (λ c. counted_next c.before.before.before.before.before.loop.invariant (search rules) (simp get_or-xors) c.count.ensures)
+    (λ c. counted_next c.before.before.before.before.before.loop-i.invariant (search rules) (simp get_or-xors) c.count-n.ensures)
     (λ c. search rules) (λ c. search rules) (λ c. search rules) (λ c. search rules)
     (λ c. search rules) (λ c. search rules) (λ c. search rules) (λ c. search rules) (λ c κs. search rules)
     (λ c. search rules) (λ c. search rules) (λ c. search rules) (λ c. search rules)
@@ -42,4 +42,4 @@ xor_xor_count_spec = tie.close (tie.spec Inv μ
     (λ c. search rules) (λ c. search rules) (λ c. search rules) (λ c. search rules)
     (λ c. search rules) (λ c. search rules) (λ c. search rules) (λ c. search rules) (λ c κs. search rules)
     (λ c. omega (arith, simp length-xors at (rest-count-le (rests c.before))))
-    (λ c. counted-rest c.before.before.before.loop.invariant (search rules) (rests c.before)))
+    (λ c. counted-rest c.before.before.before.loop-i.invariant (search rules) (rests c.before)))

@@ -19,11 +19,11 @@ abbrev μ : tie.decreases-loop
 rests : (c : tie.Joined1 Inv μ)
     → let s = c.before in
     let g = s.before.before.before.before.before.args in
-    Rest exact (xors g.c.now (xors g.a.now g.b.now)) s.shorter2.result c.if1.rest
+    Rest exact (xors g.c.now (xors g.a.now g.b.now)) s.shorter-k.result c.if-k-c.rest
 rests c =
     ⊎_elim (λ w. rest-first _ _ _ (search rules) (w.4 ∙ w.3.ensures))
     (⊎_elim (λ w. rest-second _ _ _ (search rules) (w.5 ∙ w.4.ensures)) (λ w. rest-third _ _ _ (search rules) (w.5 ∙ w.4.ensures)))
-    c.if1.branch
+    c.if-k-c.branch
 
 pub xor_xor_span_spec : {M : Type 1} → statement M
 xor_xor_span_spec = tie.close (tie.spec Inv μ
@@ -35,11 +35,11 @@ xor_xor_span_spec = tie.close (tie.spec Inv μ
     (λ c. search rules) (λ c. search rules) (λ c. search rules) (λ c. search rules)
     (λ c. search rules) (λ c. search rules) (λ c. search rules) (λ c. search rules) (λ c κs. search rules)
     (λ c. omega (arith, simp length-xors at (rest-exact-le (rests c.before.before))))
-    (λ c. exact-rest (rests c.before.before) c.before.if3.true)
+    (λ c. exact-rest (rests c.before.before) c.before.if-rest-gt0.true)
     (λ c. clear-rest (rests c.before) (search rules))
     (λ c. search rules) (λ c. search rules) (λ c. search rules) (λ c. search rules) (λ c. search rules) (λ c. search rules)
     (λ c. search rules) (λ c. search rules) (λ c. search rules)
-    (λ c. clear-found c.before.before.before.before.before.loop.invariant (search rules) (simp get_or-xors) c.if4.true)
+    (λ c. clear-found c.before.before.before.before.before.loop-n.invariant (search rules) (simp get_or-xors) c.if-c-n-ne0.true)
     (λ c. search rules) (λ c. search rules)
-    (λ c. clear_next c.before.before.before.before.before.loop.invariant (search rules) (simp get_or-xors) c.if4.false)
+    (λ c. clear_next c.before.before.before.before.before.loop-n.invariant (search rules) (simp get_or-xors) c.if-c-n-ne0.false)
     (λ c. search rules))

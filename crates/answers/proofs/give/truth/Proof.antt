@@ -5,4 +5,4 @@ use Rattle.answers.proofs.give.truth.Tie as tie
 
 pub truth_spec : {M : Type 1} → statement M
 unfolding truth
-truth_spec = tie.close (tie.spec (λ c. rw c.if1.true) (λ c. rw c.if1.false))
+truth_spec = tie.close (tie.spec (λ c. rw c.if-answer.true) (λ c. rw c.if-answer.false))

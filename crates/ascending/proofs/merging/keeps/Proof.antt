@@ -5,4 +5,4 @@ use Rattle.ascending.proofs.merging.keeps.Tie as tie
 
 pub keeps_spec : {M : Type 1} → statement M
 unfolding keeps
-keeps_spec = tie.close (tie.spec (λ c. rw c.if1.true) (λ c. rw (c.before.if1.false, c.if2.true)) (λ c. rw (c.before.if1.false, c.if2.false)))
+keeps_spec = tie.close (tie.spec (λ c. rw c.if-less.true) (λ c. rw (c.before.if-less.false, c.if-more.true)) (λ c. rw (c.before.if-less.false, c.if-more.false)))

@@ -7,4 +7,4 @@ use Rattle.ascending.proofs.merging.past.Tie as tie
 
 pub past_spec : {M : Type 1} → statement M
 unfolding past
-past_spec = tie.close (tie.spec (λ c. search rules) (λ c. rw c.if1.true) (λ c. rw c.if1.false (omega arith)))
+past_spec = tie.close (tie.spec (λ c. search rules) (λ c. rw c.if-passed.true) (λ c. rw c.if-passed.false (omega arith)))

@@ -10,8 +10,8 @@ pub shifted_spec : {M : Type 1} → statement M
 unfolding place_of later
 shifted_spec = tie.close (tie.spec
     (λ c. search rules)
-    (λ c. omega (arith, c.before.before.before.requires, ap place_of c.before.found.given.1))
+    (λ c. omega (arith, c.before.before.before.requires, ap place_of c.before.found-1.given.1))
     (λ c. search rules)
-    (λ c. omega (arith, c.before.before.before.requires, ap place_of c.before.found2.given.1))
-    (λ c. sym (ap (later c.before.before.before.args.start) c.before.found.given.1))
-    (λ c. sym (ap (later c.before.before.before.args.start) c.before.found2.given.1)))
+    (λ c. omega (arith, c.before.before.before.requires, ap place_of c.before.found-in-Absent-1.given.1))
+    (λ c. sym (ap (later c.before.before.before.args.start) c.before.found-1.given.1))
+    (λ c. sym (ap (later c.before.before.before.args.start) c.before.found-in-Absent-1.given.1)))

@@ -18,10 +18,10 @@ to_keys_spec =
     (λ c. search rules)
     (λ c. search rules)
     (λ c. search rules)
-    (λ c κs. let t = c.before.before in let w = members-next _ _ t.before.loop.invariant t.loop-test.true in omega arith)
+    (λ c κs. let t = c.before.before in let w = members-next _ _ t.before.loop-p.invariant t.loop-p-test.true in omega arith)
     (λ c. search rules)
     (λ c. search rules)
     (λ c. let w = c.before.before in let t = w.before.before.before in
-    rw (w.write-ones.ensures.0, w.write-ones.ensures.1) (members-next _ _ t.before.loop.invariant t.loop-test.true))
+    rw (w.write_ones-n.ensures.0, w.write_ones-n.ensures.1) (members-next _ _ t.before.loop-p.invariant t.loop-p-test.true))
     (λ c. search rules)
-    (λ c. members-end _ _ c.before.loop.invariant c.loop-test.false))
+    (λ c. members-end _ _ c.before.loop-p.invariant c.loop-p-test.false))

@@ -8,5 +8,5 @@ use Rattle.words.proofs.row.contains.Tie as tie
 
 pub contains_spec : {M : Type 1} → statement M
 contains_spec = tie.close (tie.spec (λ c κs. search rules) (λ c. search rules) (λ c. search rules) (λ c κs. search rules)
-    (λ c. rw c.before.before.before.place.ensures at c.test.ensures)
+    (λ c. rw c.before.before.before.place-p.ensures at c.test.ensures)
     (λ c. let a = c.before.before.before.args in sym (at-past a.words.now a.index (omega arith))))

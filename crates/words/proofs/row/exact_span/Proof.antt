@@ -15,5 +15,5 @@ exact_span_spec = tie.close (tie.spec
     (λ c. exact_begin _)
     (λ c. search rules) (λ c. search rules) (λ c κs. search rules)
     (λ c. search rules) (λ c. search rules)
-    (λ c. exact_turn _ _ _ _ c.before.before.before.loop.invariant (search rules) c.reach.ensures)
-    (λ c. exact_end _ _ _ c.before.loop.invariant (search rules)))
+    (λ c. exact_turn _ _ _ _ c.before.before.before.loop-i.invariant (search rules) c.reach-span.ensures)
+    (λ c. exact_end _ _ _ c.before.loop-i.invariant (search rules)))

@@ -7,5 +7,5 @@ use Rattle.words.proofs.row.reach.Tie as tie
 
 pub reach_spec : {M : Type 1} → statement M
 reach_spec = tie.close (tie.spec (λ c. search rules)
-    (λ c. rw (ne_eqb c.before.args.word 0 c.if1.true) (add-one _))
-    (λ c. rw (eq-eqb c.before.args.word 0 c.if1.false)))
+    (λ c. rw (ne_eqb c.before.args.word 0 c.if-word-ne0.true) (add-one _))
+    (λ c. rw (eq-eqb c.before.args.word 0 c.if-word-ne0.false)))

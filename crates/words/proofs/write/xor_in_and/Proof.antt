@@ -16,6 +16,6 @@ xor_in_and_spec = tie.close (tie.spec
     (λ c. xored_begin)
     (λ c. search rules) (λ c. search rules) (λ c. search rules) (λ c. search rules) (λ c. search rules) (λ c. search rules)
     (λ c. search rules) (λ c. search rules) (λ c. search rules) (λ c. search rules)
-    (λ c. xored-next c.before.before.before.before.loop.invariant (omega arith) (simp length-ands (omega arith)) (get_or-ands _ _ _))
+    (λ c. xored-next c.before.before.before.before.loop-i.invariant (omega arith) (simp length-ands (omega arith)) (get_or-ands _ _ _))
     (λ c. search rules)
-    (λ c. xored_end c.before.loop.invariant (simp length-ands (omega arith))))
+    (λ c. xored_end c.before.loop-i.invariant (simp length-ands (omega arith))))

@@ -15,6 +15,6 @@ xor_in_from_spec = tie.close (tie.spec
     (λ c. xored_begin)
     (λ c. search rules) (λ c. search rules) (λ c. search rules) (λ c. search rules) (λ c. search rules) (λ c. search rules)
     (λ c. search rules) (λ c. search rules)
-    (λ c. xored-next c.before.before.before.loop.invariant (omega arith) (omega arith) refl)
+    (λ c. xored-next c.before.before.before.loop-i.invariant (omega arith) (omega arith) refl)
     (λ c. search rules)
-    (λ c. xored_end c.before.loop.invariant (omega arith)))
+    (λ c. xored_end c.before.loop-i.invariant (omega arith)))

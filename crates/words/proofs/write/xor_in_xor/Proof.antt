@@ -16,8 +16,8 @@ xor_in_xor_spec = tie.close (tie.spec
     (λ c. xored_begin)
     (λ c. search rules) (λ c. search rules) (λ c. search rules) (λ c. search rules) (λ c. search rules) (λ c. search rules)
     (λ c. search rules) (λ c. search rules) (λ c. search rules) (λ c. search rules)
-    (λ c. xored-next c.before.before.before.before.loop.invariant (omega arith) (simp length-xors (omega arith)) (get_or-xors _ _ _))
+    (λ c. xored-next c.before.before.before.before.loop-i.invariant (omega arith) (simp length-xors (omega arith)) (get_or-xors _ _ _))
     (λ c κs. search rules) (λ c κs. search rules)
     (λ c. search rules)
     (λ c. let first = c.before.before.before.before.before.before in
-    xored_rests _ _ first.before.before.before.loop.invariant first.xor-in-from.ensures c.before.before.xor-in-from2.ensures))
+    xored_rests _ _ first.before.before.before.loop-i.invariant first.xor_in_from.ensures c.before.before.xor_in_from-2.ensures))
