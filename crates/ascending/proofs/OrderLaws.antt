@@ -44,6 +44,7 @@ ascending-ascends (x ∷ l) f = from-above x l f.1
 
 pub from_at : (b : ℕ) (l : List ℕ) (i : ℕ) → From b l → i < length l → b ≤ get_or l i 0
 unfolding From
+from_at b [] i f h = elim h [ ]
 from_at b (x ∷ l) zero f h = f.0
 from_at b (x ∷ l) (suc i) f h = omega (arith, f.0, from_at (suc x) l i f.1 (omega arith))
 

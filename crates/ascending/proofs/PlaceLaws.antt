@@ -25,6 +25,8 @@ length-insert-at (suc p) x (y ∷ l) = omega (arith, length-insert-at p x l)
 
 pub length-remove-at : (p : ℕ) (l : List ℕ) → p < length l → length (remove_at p l) + 1 ≡ length l
 unfolding remove_at
+length-remove-at zero [] h = elim h [ ]
+length-remove-at (suc p) [] h = elim h [ ]
 length-remove-at zero (y ∷ l) h = omega arith
 length-remove-at (suc p) (y ∷ l) h = omega (arith, length-remove-at p l (omega arith))
 
@@ -41,6 +43,8 @@ unfolding insert_at
 hole_behind n l h = record { any = get_or l n 0; is = rw (add-one n) (go n l h) }
   where
     go : (n : ℕ) (l : List ℕ) → n < length l → l ≡ insert_at n (get_or l n 0) (take n l) ++ drop (suc n) l
+    go zero [] h = elim h [ ]
+    go (suc n) [] h = elim h [ ]
     go zero (y ∷ l) h = refl
     go (suc n) (y ∷ l) h = ap (λ (r : List ℕ). y ∷ r) (go n l (omega arith))
 
@@ -52,12 +56,15 @@ hole_among n p l q h = record {
 }
   where
     go : (p : ℕ) (l : List ℕ) → p < length l → l ≡ insert_at p (get_or l p 0) (remove_at p l)
+    go zero [] h = elim h [ ]
+    go (suc p) [] h = elim h [ ]
     go zero (y ∷ l) h = refl
     go (suc p) (y ∷ l) h = ap (λ (r : List ℕ). y ∷ r) (go p l (omega arith))
 
 -- the element before the hole written into it, and the one behind it
 hole_down : {front back new : List ℕ} {i : ℕ} → Hole front back new i → 0 < i → i ≤ length front → Hole front back (set new i (get_or new (i - 1) 0)) (i - 1)
 unfolding insert_at
+hole_down {front = front} {back = back} {new = new} {i = zero} v p h = elim p [ ]
 hole_down {front} {back} {i = suc i} v p h = record {
   any = get_or front i 0;
   is = rw (v.is, sub-one (suc i)) (go i v.any front h);
@@ -65,6 +72,8 @@ hole_down {front} {back} {i = suc i} v p h = record {
   where
     go : (i any : ℕ) (l : List ℕ) → i < length l
         → set (insert_at (suc i) any l ++ back) (suc i) (get_or (insert_at (suc i) any l ++ back) i 0) ≡ insert_at i (get_or l i 0) l ++ back
+    go zero any [] h = elim h [ ]
+    go (suc i) any [] h = elim h [ ]
     go zero any (y ∷ l) h = refl
     go (suc i) any (y ∷ l) h = ap (λ (r : List ℕ). y ∷ r) (go i any l (omega arith))
 
@@ -74,6 +83,8 @@ hole_up {front} {back} {i = i} v h = record { any = get_or front i 0; is = rw (v
   where
     go : (i any : ℕ) (l : List ℕ) → i < length l
         → set (insert_at i any l ++ back) i (get_or (insert_at i any l ++ back) (suc i) 0) ≡ insert_at (suc i) (get_or l i 0) l ++ back
+    go zero any [] h = elim h [ ]
+    go (suc i) any [] h = elim h [ ]
     go zero any (y ∷ l) h = refl
     go (suc i) any (y ∷ l) h = ap (λ (r : List ℕ). y ∷ r) (go i any l (omega arith))
 
@@ -83,6 +94,7 @@ hole_filled {front} {back} {i = i} v h x = rw v.is (go i v.any front h)
   where
     go : (i any : ℕ) (l : List ℕ) → i ≤ length l → set (insert_at i any l ++ back) i x ≡ insert_at i x l ++ back
     go zero any l h = refl
+    go (suc i) any [] h = elim h [ ]
     go (suc i) any (y ∷ l) h = ap (λ (r : List ℕ). y ∷ r) (go i any l (omega arith))
 
 -- ---- those from a place on move up by one

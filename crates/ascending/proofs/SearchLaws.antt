@@ -48,6 +48,7 @@ found_none x (y ∷ l) e = absurd (omega arith)
 module _ (x : ℕ) where
   pub found_here : (b : ℕ) (l : List ℕ) (m : ℕ) → From b l → m < length l → get_or l m 0 ≡ x → found x l ≡ At m
   unfolding From later
+  found_here b [] m f h e = elim h [ ]
   found_here b (y ∷ l) zero f h e = rw (found-cons x y l f.1, le-ltb y x (omega arith), eq-eqb y x e)
   found_here b (y ∷ l) (suc m) f h e =
       let above : suc y ≤ get_or l m 0 = from_at (suc y) l m f.1 (omega arith) in
@@ -55,12 +56,14 @@ module _ (x : ℕ) where
 
   pub found_front : (b : ℕ) (l : List ℕ) (m : ℕ) → From b l → m < length l → x < get_or l m 0 → found x l ≡ found x (take m l)
   unfolding From found has
+  found_front b [] m f h q = elim h [ ]
   found_front b (y ∷ l) zero f h q = rw (found-cons x y l f.1, le-ltb y x (omega arith), ne_eqb y x (λ e. omega arith))
   found_front b (y ∷ l) (suc m) f h q =
       rw (found-cons x y l f.1, found-cons x y (take m l) (from-take (suc y) m l f.1), found_front (suc y) l m f.1 (omega arith) q)
 
   found-behind : (b : ℕ) (l : List ℕ) (m : ℕ) → From b l → m < length l → get_or l m 0 < x → found x l ≡ later (suc m) (found x (drop (suc m) l))
   unfolding From
+  found-behind b [] m f h q = elim h [ ]
   found-behind b (y ∷ l) zero f h q = rw (found-cons x y l f.1, lt-ltb y x q)
   found-behind b (y ∷ l) (suc m) f h q =
       let above : suc y ≤ get_or l m 0 = from_at (suc y) l m f.1 (omega arith) in

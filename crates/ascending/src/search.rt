@@ -13,6 +13,7 @@ pub enum Found {
 }
 
 // What a search in the part from `start` on answers, as an answer of the whole.
+#[tactic(auto, unfolding(crate::specs::Search::place_of, crate::specs::Search::later))]
 pub fn shifted(found: Found, start: usize) -> Found
     requires { start + place_of found < 2 ^ 64 }
     ensures { result ≡ later start found }
@@ -24,6 +25,7 @@ pub fn shifted(found: Found, start: usize) -> Found
 }
 
 // What a search's answer comes to as an answer: whether the element is there.
+#[tactic(auto, unfolding(crate::specs::Search::told))]
 pub fn told(found: Found) -> Answer
     ensures { result ≡ told found }
 {

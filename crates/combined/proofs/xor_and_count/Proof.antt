@@ -8,14 +8,14 @@ use Rattle.words.proofs.LoopLaws.{Rest, rest-row, rest-ands, rest-xors, rest-cou
 use Rattle.combined.proofs.xor_and_count.Statement.{statement}
 use Rattle.combined.proofs.xor_and_count.Tie as tie
 
-abbrev Inv : tie.invariant-loop
+abbrev Inv : tie.invariant-loop-i
 Inv c a b k n₀ i₀ n i = Counted (xors c (ands a b)) k n i
 
-abbrev μ : tie.decreases-loop
+abbrev μ : tie.decreases-loop-i
 μ c a b k n₀ i₀ n i = k - i
 
 -- past the end of the shorter row
-rests : (c : tie.After-and-count Inv μ)
+rests : (c : tie.After-and_count Inv μ)
     → let s = c.before.before.before.before.before.before.before in
     let g = s.before.before.before.before.before.args in
     Rest count (xors g.c.now (ands g.a.now g.b.now)) s.shorter-k.result (c.before.before.before.count_all.result + c.and_count.result)

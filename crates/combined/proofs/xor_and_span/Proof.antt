@@ -8,14 +8,14 @@ use Rattle.words.proofs.LoopLaws.{Rest, rest-row, rest-ands, rest-xors, rest-exa
 use Rattle.combined.proofs.xor_and_span.Statement.{statement}
 use Rattle.combined.proofs.xor_and_span.Tie as tie
 
-abbrev Inv : tie.invariant-loop
+abbrev Inv : tie.invariant-loop-n
 Inv c a b k rest n₀ n = Clear (xors c (ands a b)) k n
 
-abbrev μ : tie.decreases-loop
+abbrev μ : tie.decreases-loop-n
 μ c a b k rest n₀ n = n
 
 -- past the end of the shorter row
-rests : (c : tie.After-and-span Inv μ)
+rests : (c : tie.After-and_span Inv μ)
     → let s = c.before.before.before.before.before in
     let g = s.before.before.before.before.before.args in
     Rest exact (xors g.c.now (ands g.a.now g.b.now)) s.shorter-k.result (c.before.before.before.exact_span.result + c.and_span.result)

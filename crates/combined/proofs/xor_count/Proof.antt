@@ -8,14 +8,14 @@ use Rattle.words.proofs.LoopLaws.{Rest, rest-row, rest-xors, rest-count-le, word
 use Rattle.combined.proofs.xor_count.Statement.{statement}
 use Rattle.combined.proofs.xor_count.Tie as tie
 
-abbrev Inv : tie.invariant-loop
+abbrev Inv : tie.invariant-loop-i
 Inv a b k n₀ i₀ n i = Counted (xors a b) k n i
 
-abbrev μ : tie.decreases-loop
+abbrev μ : tie.decreases-loop-i
 μ a b k n₀ i₀ n i = k - i
 
 -- past the end of the shorter row
-rests : (c : tie.After-count-all2 Inv μ)
+rests : (c : tie.After-count_all-2 Inv μ)
     → let s = c.before.before.before.before.before.before in
     let g = s.before.before.before.args in
     Rest count (xors g.a.now g.b.now) s.shorter-k.result (c.before.before.count_all.result + c.count_all-2.result)

@@ -8,14 +8,14 @@ use Rattle.words.proofs.LoopLaws.{Rest, rest-row, rest-xors, rest-exact-le, exac
 use Rattle.combined.proofs.xor_span.Statement.{statement}
 use Rattle.combined.proofs.xor_span.Tie as tie
 
-abbrev Inv : tie.invariant-loop
+abbrev Inv : tie.invariant-loop-n
 Inv a b k rest n₀ n = Clear (xors a b) k n
 
-abbrev μ : tie.decreases-loop
+abbrev μ : tie.decreases-loop-n
 μ a b k rest n₀ n = n
 
 -- past the end of the shorter row
-rests : (c : tie.After-exact-span2 Inv μ)
+rests : (c : tie.After-exact_span-2 Inv μ)
     → let s = c.before.before.before.before in
     let g = s.before.before.before.args in
     Rest exact (xors g.a.now g.b.now) s.shorter-k.result (c.before.before.exact_span.result + c.exact_span-2.result)
