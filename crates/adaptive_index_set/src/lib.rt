@@ -18,7 +18,7 @@ pub mod checked;
 pub mod storage;
 
 // Mode 0 is dense, 1 sparse.
-#[derive(Drop)]
+#[derive(Clone, Copy)]
 pub struct Header {
     pub mode: u8,
     pub span: usize,
@@ -26,7 +26,7 @@ pub struct Header {
 }
 
 // What a call that may change its target gives back: the answer, and the target's header.
-#[derive(Drop)]
+#[derive(Clone, Copy)]
 pub struct Reply {
     pub answer: Answer,
     pub header: Header,

@@ -5,14 +5,14 @@ ghost use Rattle.adaptive_index_set.specs.Steps.{storage_of, width_of};
 use crate::Header;
 
 // In words, or in so many keys.
-#[derive(Drop)]
+#[derive(Clone, Copy)]
 pub enum Storage {
     Dense(Width),
     Sparse(usize),
 }
 
 // Narrow with a span, or wide with a span and a count.
-#[derive(Drop)]
+#[derive(Clone, Copy)]
 pub enum Width {
     Narrow(usize),
     Wide(usize, usize),

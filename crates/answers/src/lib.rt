@@ -17,7 +17,7 @@ pub const SPAN: u8 = 4;
 // The state that the rules give has more keys than room.
 pub const ROOM: u8 = 5;
 
-#[derive(Drop)]
+#[derive(Clone, Copy)]
 pub struct Answer {
     pub number: u8,
     pub value: u64,

@@ -4,7 +4,7 @@ ghost use Rattle.words.specs.Sets.{pick};
 ghost use Rattle.ascending.specs.Merging.{past, keeps, stepped};
 
 // Whether a merge keeps the elements of the left list only, of the right one only, and of both.
-#[derive(Drop)]
+#[derive(Clone, Copy)]
 pub struct Kept {
     pub left: bool,
     pub right: bool,
@@ -12,7 +12,7 @@ pub struct Kept {
 }
 
 // How far a merge has come in the left list and in the right one, and how many elements it has kept.
-#[derive(Drop)]
+#[derive(Clone, Copy)]
 pub struct Places {
     pub left: usize,
     pub right: usize,

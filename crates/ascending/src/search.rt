@@ -6,7 +6,7 @@ use answers::Answer;
 use answers::give::answer;
 
 // An element stands at a place, or is absent and would stand there.
-#[derive(Drop)]
+#[derive(Clone, Copy)]
 pub enum Found {
     At(usize),
     Absent(usize),

@@ -17,13 +17,13 @@ pub mod indices;
 pub mod judge;
 pub mod replies;
 
-#[derive(Drop)]
+#[derive(Clone, Copy)]
 pub struct BitSet {
     pub span: usize,
 }
 
 // What a call that may change its target gives back: the answer, and the target's header.
-#[derive(Drop)]
+#[derive(Clone, Copy)]
 pub struct Reply {
     pub answer: Answer,
     pub set: BitSet,

@@ -17,20 +17,20 @@ pub mod judge;
 pub mod replies;
 pub mod xor;
 
-#[derive(Drop)]
+#[derive(Clone, Copy)]
 pub struct SortedVecSet {
     pub count: usize,
 }
 
 // What a call that may change its target gives back: the answer, and the target's header.
-#[derive(Drop)]
+#[derive(Clone, Copy)]
 pub struct Reply {
     pub answer: Answer,
     pub set: SortedVecSet,
 }
 
 // What `take_clearing` gives back: the answer, and the headers of the set that is cleared and of the one that is filled.
-#[derive(Drop)]
+#[derive(Clone, Copy)]
 pub struct Taken {
     pub answer: Answer,
     pub set: SortedVecSet,
