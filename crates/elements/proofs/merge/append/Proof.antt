@@ -9,5 +9,5 @@ pub append_spec : {M : Type 1} → statement M
 append_spec = tie.close (tie.spec
     (λ c κs. search rules)
     (λ c. search rules)
-    (λ c. let f = c.before.before in rw f.before.before.if1.true f.copy.ensures)
-    (λ c. rw c.if1.false (omega arith, refl)))
+    (λ c. let f = c.before.before in rw f.before.before.if-kept.true f.copy.ensures)
+    (λ c. rw c.if-kept.false (omega arith, refl)))

@@ -19,11 +19,11 @@ merge_heads_spec = tie.close (tie.spec
     (λ c. omega (arith, ltb-true))
     (λ c κs. search rules)
     (λ c. let t = c.before.before.before.before in
-    heads-less t.before.before.before.before.loop.invariant.heads t.before.before.if1.true (ltb-true _ _ t.if2.true) c.step.ensures)
+    heads-less t.before.before.before.before.loop-at.invariant.heads t.before.before.loop-at-test.true t.if-at-b.true c.step-at.ensures)
     (λ c. let t = c.before.before.before.before in let l = t.before.before.before.before in
-    heading-next l.loop.invariant l.before.before.before.before.requires t.before.before.if1.true (ltb-true _ _ t.if2.true)
-    c.before.lower.ensures c.step.ensures)
+    heading-next l.loop-at.invariant l.before.before.before.before.requires t.before.before.loop-at-test.true t.if-at-b.true
+    c.before.lower.ensures c.step-at.ensures)
     (λ c. search rules)
-    (λ c. heading-end c.before.before.before.before.loop.invariant (inr (ltb-false _ _ c.if2.false)))
+    (λ c. heading-end c.before.before.before.before.loop-at.invariant (inr c.if-at-b.false))
     (λ c. search rules)
-    (λ c. heading-end c.before.before.loop.invariant (inl c.if1.false)))
+    (λ c. heading-end c.before.before.loop-at.invariant (inl c.loop-at-test.false)))

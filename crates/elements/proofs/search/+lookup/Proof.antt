@@ -24,17 +24,13 @@ pub +lookup_spec : {M : Type 1} → statement M
     (and 1 lookup-kinds.ps (falls 1 lookup-kinds.ps ◌<◌ μ t) lookup.Pre, lookup.Post, shifted-reads.Asked, shifted-reads.Learnt)
     (and 1 lookup-kinds.ps (is 1 lookup-kinds.ps μ t) lookup.Pre)
     lookup.Post
-    (λ c. sym (found_none _ _ c.if1.true))
+    (λ c. sym (found_none _ _ c.if-elements-eq0.true))
     (λ c. search rules) (λ c. search rules)
-    (λ c. let s = c.before.before.before.before in sym (found_here _ 0 _ _ s.requires.1 (search rules) c.if2.true))
+    (λ c. sym (found_here _ 0 _ _ c.requires.1 (search rules) c.if-there-element.true))
     (λ c. sym (length-take-le _ _ (search rules)))
-    (λ c κs. let s = c.before.before.before.before.before.before in
-    (simp length-take (omega arith), from-take 0 (length s.args.elements.now / 2) _ s.requires.1))
-    (λ c. let s = c.before.before.before.before.before.before.before in
-    c.lookup.ensures ∙ sym (found_front _ 0 _ _ s.requires.1 (search rules) c.before.before.if3.true))
+    (λ c κs. (simp length-take (omega arith), from-take 0 (length c.args.elements.now / 2) _ c.requires.1))
+    (λ c. c.lookup.ensures ∙ sym (found_front _ 0 _ _ c.requires.1 (search rules) c.if-element-there.true))
     (λ c. search rules) (λ c. search rules) (λ c. search rules) (λ c. search rules) (λ c. search rules)
-    (λ c κs. let s = c.before.before.before.before.before.before in
-    (simp (length-take, length-drop) (omega arith), from_tail 0 _ _ s.requires.1))
-    (λ c κs. omega (arith, simp (length-take, length-drop) at (found_within _ _ c.lookup2.ensures)))
-    (λ c. let s = c.before.before.before.before.before.before.before.before in
-    c.shifted.ensures ∙ ap (later _) c.before.lookup2.ensures ∙ sym (found_back _ _ _ s.requires.1 (search rules) (search rules)))
+    (λ c κs. (simp (length-take, length-drop) (omega arith), from_tail 0 _ _ c.requires.1))
+    (λ c κs. omega (arith, simp (length-take, length-drop) at (found_within _ _ c.lookup-2.ensures)))
+    (λ c. c.shifted.ensures ∙ ap (later _) c.lookup-2.ensures ∙ sym (found_back _ _ _ c.requires.1 (search rules) (search rules)))

@@ -12,6 +12,6 @@ remove_at_spec = tie.close (tie.spec
     (λ c. search rules)
     (λ c. closing_begin c.requires.0 c.requires.1)
     (λ c. search rules) (λ c. search rules) (λ c. search rules) (λ c. search rules) (λ c. search rules) (λ c. search rules) (λ c. search rules)
-    (λ c. closing-next c.before.before.loop.invariant c.before.loop-test.true)
+    (λ c. closing-next c.before.before.loop-i.invariant c.before.loop-i-test.true)
     (λ c. search rules) (λ c. search rules) (λ c. search rules)
-    (λ c. closing_end c.before.loop.invariant c.loop-test.false 0))
+    (λ c. closing_end c.before.loop-i.invariant c.loop-i-test.false 0))

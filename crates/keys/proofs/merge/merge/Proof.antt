@@ -12,7 +12,7 @@ merge_spec = tie.close (tie.spec
     (λ c κs. search rules)
     (λ c. search rules) (λ c. search rules) (λ c. search rules) (λ c. search rules)
     (λ c κs. let a = c.before.before.before.before in let h = a.before.before.before.before.before in
-    omega (arith, headed-room h.merge-heads.ensures (omega arith) a.append.ensures.0))
+    omega (arith, headed-room h.merge_heads-at.ensures (omega arith) a.append-n.ensures.0))
     (λ c. search rules)
     (λ c. let b = c.before.before in let a = b.before.before.before.before.before in let h = a.before.before.before.before.before in
-    headed-end h.merge-heads.ensures (omega arith) a.append.ensures.0 a.append.ensures.1 b.append2.ensures.0 b.append2.ensures.1))
+    headed-end h.merge_heads-at.ensures (omega arith) a.append-n.ensures.0 a.append-n.ensures.1 b.append.ensures.0 b.append.ensures.1))

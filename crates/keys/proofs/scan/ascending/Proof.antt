@@ -12,5 +12,5 @@ ascending_spec = tie.close (tie.spec
     (λ keys fails₀ i₀ fails i. length keys - i)
     (λ c. ordered_begin _)
     (λ c. search rules) (λ c. search rules) (λ c. search rules) (λ c. search rules) (λ c. search rules) (λ c κs. search rules) (λ c. search rules) (λ c. search rules)
-    (λ c. ordered-next c.before.before.before.before.loop.invariant (search rules) c.not-above.ensures)
-    (λ c. ordered_end c.before.loop.invariant (search rules)))
+    (λ c. ordered-next c.before.before.before.before.loop-i.invariant (search rules) c.not_above-fails.ensures)
+    (λ c. ordered_end c.before.loop-i.invariant (search rules)))

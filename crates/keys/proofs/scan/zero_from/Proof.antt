@@ -16,5 +16,5 @@ zero_from_spec = tie.close (tie.spec
     (λ keys place any₀ i₀ any i. length keys - i)
     (λ c. refl)
     (λ c. search rules) (λ c. search rules) (λ c. search rules) (λ c. search rules)
-    (λ c. let l = c.before.before in any_turn l.before.args.keys.now l.loop.i l.loop.any (search rules) ∙ l.loop.invariant)
-    (λ c. let l = c.before in any_end l.before.args.keys.now l.loop.i l.loop.any (search rules) ∙ l.loop.invariant))
+    (λ c. let l = c.before.before in any_turn l.before.args.keys.now l.loop-i.i l.loop-i.any (search rules) ∙ l.loop-i.invariant)
+    (λ c. let l = c.before in any_end l.before.args.keys.now l.loop-i.i l.loop-i.any (search rules) ∙ l.loop-i.invariant))

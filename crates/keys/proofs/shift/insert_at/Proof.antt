@@ -11,6 +11,6 @@ insert_at_spec = tie.close (tie.spec
     (λ keys₀ count place key i₀ keys i. i - place)
     (λ c. opening_begin c.requires.0 c.requires.1)
     (λ c. search rules) (λ c. search rules) (λ c. search rules) (λ c. search rules) (λ c. search rules) (λ c. search rules) (λ c. search rules)
-    (λ c. opening-next c.before.before.loop.invariant c.before.loop-test.true)
+    (λ c. opening-next c.before.before.loop-i.invariant c.before.loop-i-test.true)
     (λ c. search rules) (λ c. search rules) (λ c. search rules)
-    (λ c. opening-end c.before.loop.invariant c.loop-test.false _))
+    (λ c. opening-end c.before.loop-i.invariant c.loop-i-test.false _))

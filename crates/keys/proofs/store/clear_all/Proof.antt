@@ -14,6 +14,6 @@ clear_all_spec = tie.close (tie.spec
     (λ keys₀ i₀ keys i. length keys₀ - i)
     (λ c. written_begin (length-replicate _ _))
     (λ c. search rules) (λ c. search rules) (λ c. search rules) (λ c. search rules)
-    (λ c. let l = c.before in written_next 0 l.loop.invariant (omega arith) (sym (get_or-replicate {A = ℕ} (length l.before.args.keys.now) l.loop.i 0 0 (omega arith))))
+    (λ c. let l = c.before in written_next 0 l.loop-i.invariant (omega arith) (sym (get_or-replicate {A = ℕ} (length l.before.args.keys.now) l.loop-i.i 0 0 (omega arith))))
     (λ c. search rules)
-    (λ c. written_end c.before.loop.invariant (omega arith)))
+    (λ c. written_end c.before.loop-i.invariant (omega arith)))

@@ -11,7 +11,7 @@ store_spec = tie.close (tie.spec
     (λ c κs. search rules)
     (λ c. search rules)
     (λ c. let t = c.before.before.before.before in let f = t.before.before.before in let s = f.before.before.before.before in
-    stored-cleared _ _ _ s.requires.0 s.requires.2 f.copy.ensures.0 f.copy.ensures.1 t.if1.true s.requires.1 c.before.before.clear-all.ensures)
+    stored-cleared _ _ _ s.requires.0 s.requires.2 f.copy-n.ensures.0 f.copy-n.ensures.1 t.if-n-count.true s.requires.1 c.before.before.clear_all.ensures)
     (λ c. search rules)
     (λ c. let f = c.before.before.before in let s = f.before.before.before.before in
-    stored-whole _ _ _ s.requires.0 s.requires.2 f.copy.ensures.0 f.copy.ensures.1 c.if1.false))
+    stored-whole _ _ _ s.requires.0 s.requires.2 f.copy-n.ensures.0 f.copy-n.ensures.1 c.if-n-count.false))
