@@ -10,7 +10,7 @@ use Rattle.sorted_vec_set.proofs.SortedVecSet.new.Tie as tie
 pub new_spec : {M : Type 1} → statement M
 unfolding preparing left
 new_spec = tie.close (tie.spec (λ c κs. search rules)
-    (λ c. rw (c.refuse.ensures, lt-leb (length c.before.before.before.args.elements.now) 8192 c.before.if1.true))
+    (λ c. rw (c.refuse.ensures, lt-leb (length c.args.elements.now) 8192 c.if-elements-gt-ELEMENTS.true))
     (λ c κs. search rules) (λ c κs. search rules) (λ c. search rules)
-    (λ c. let elements = c.before.before.before.before.before.before.before.args.elements.now in
-    rw (c.serve.ensures, c.before.before.before.clear-all.ensures, le-leb (length elements) 8192 (omega arith))))
+    (λ c. let elements = c.args.elements.now in
+    rw (c.serve.ensures, c.clear_all.ensures, le-leb (length elements) 8192 (omega arith))))

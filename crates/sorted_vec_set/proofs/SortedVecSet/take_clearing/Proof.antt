@@ -8,6 +8,6 @@ use Rattle.sorted_vec_set.proofs.SortedVecSet.take_clearing.Tie as tie
 
 pub take_clearing_spec : {M : Type 1} → statement M
 take_clearing_spec = tie.close (tie.spec (λ c κs. search rules) (λ c κs. search rules) (λ c. search rules) (λ c. search rules)
-    (λ c. refused-handed _ _ c.before.before.two.ensures c.before.if1.true c.keep.ensures)
-    (λ c κs. two_sound (sym c.before.before.before.two.ensures ∙ c.before.before.if1.false)) (λ c. search rules) (λ c. search rules)
-    (λ c. c.before.before.before.before.take-clearing.ensures))
+    (λ c. refused-handed _ _ c.two-number.ensures c.if-number-ne-SERVED.true c.keep.ensures)
+    (λ c κs. two_sound (sym c.two-number.ensures ∙ c.if-number-ne-SERVED.false)) (λ c. search rules) (λ c. search rules)
+    (λ c. c.take_clearing.ensures))

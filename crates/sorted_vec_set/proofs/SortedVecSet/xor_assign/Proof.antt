@@ -9,6 +9,6 @@ use Rattle.sorted_vec_set.proofs.SortedVecSet.xor_assign.Tie as tie
 pub xor_assign_spec : {M : Type 1} → statement M
 unfolding xoring
 xor_assign_spec = tie.close (tie.spec (λ c κs. search rules) (λ c κs. search rules) (λ c. search rules)
-    (λ c. refused-left _ _ _ c.before.before.two.ensures c.before.if1.true c.refuse.ensures)
-    (λ c κs. two_sound (sym c.before.before.two.ensures ∙ c.before.if1.false)) (λ c. search rules)
-    (λ c. c.before.before.xor-assign.ensures))
+    (λ c. refused-left _ _ _ c.two-number.ensures c.if-number-ne-SERVED.true c.refuse.ensures)
+    (λ c κs. two_sound (sym c.two-number.ensures ∙ c.if-number-ne-SERVED.false)) (λ c. search rules)
+    (λ c. c.xor_assign.ensures))

@@ -5,4 +5,4 @@ use Rattle.sorted_vec_set.proofs.checked.contains.Statement.{statement}
 use Rattle.sorted_vec_set.proofs.checked.contains.Tie as tie
 
 pub contains_spec : {M : Type 1} → statement M
-contains_spec = tie.close (tie.spec (λ c κs. search rules) (λ c κs. search rules) (λ c. contained_answer _ c.before.before.before.requires c.before.find.ensures c.told.ensures))
+contains_spec = tie.close (tie.spec (λ c κs. search rules) (λ c κs. search rules) (λ c. contained_answer _ c.requires c.find.ensures c.told.ensures))

@@ -10,4 +10,4 @@ use Rattle.sorted_vec_set.proofs.checked.eq.Tie as tie
 
 pub eq_spec : {M : Type 1} → statement M
 eq_spec = tie.close (tie.spec (λ c. simp length-take (omega arith)) (λ c. simp length-take (omega arith)) (λ c κs. search rules) (λ c κs. search rules) (λ c κs. search rules)
-    (λ c. equal-answer c.before.before.before.before.before.before.before.requires (c.before.truth.ensures ∙ ap truth c.before.before.equal.ensures) c.answer.ensures))
+    (λ c. equal-answer c.requires (c.truth.ensures ∙ ap truth c.equal.ensures) c.answer.ensures))

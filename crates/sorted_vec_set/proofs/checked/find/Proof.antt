@@ -6,4 +6,4 @@ use Rattle.sorted_vec_set.proofs.checked.find.Statement.{statement}
 use Rattle.sorted_vec_set.proofs.checked.find.Tie as tie
 
 pub find_spec : {M : Type 1} → statement M
-find_spec = tie.close (tie.spec (λ c. simp length-take (omega arith)) (λ c κs. c.before.before.requires.ascending) (λ c. search rules))
+find_spec = tie.close (tie.spec (λ c. simp length-take (omega arith)) (λ c κs. c.requires.ascending) (λ c. search rules))

@@ -8,5 +8,4 @@ use Rattle.sorted_vec_set.proofs.checked.intersection_count.Tie as tie
 
 pub intersection_count_spec : {M : Type 1} → statement M
 intersection_count_spec = tie.close (tie.spec (λ c κs. search rules) (λ c. simp length-take (omega arith)) (λ c. simp length-take (omega arith)) (λ c κs. search rules) (λ c κs. search rules)
-    (λ c. let i = c.before.before.before.before in
-    shared-answer i.before.before.before.requires (rw i.intersection.ensures at c.before.merge-count.ensures) c.answer.ensures))
+    (λ c. shared-answer c.requires (rw c.intersection.ensures at c.merge_count.ensures) c.answer.ensures))

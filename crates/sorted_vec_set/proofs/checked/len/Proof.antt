@@ -5,4 +5,4 @@ use Rattle.sorted_vec_set.proofs.checked.len.Statement.{statement}
 use Rattle.sorted_vec_set.proofs.checked.len.Tie as tie
 
 pub len_spec : {M : Type 1} → statement M
-len_spec = tie.close (tie.spec (λ c κs. search rules) (λ c. counted-answer c.before.before.requires c.answer.ensures))
+len_spec = tie.close (tie.spec (λ c κs. search rules) (λ c. counted-answer c.requires c.answer.ensures))

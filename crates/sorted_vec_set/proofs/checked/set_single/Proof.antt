@@ -11,7 +11,6 @@ use Rattle.sorted_vec_set.proofs.checked.set_single.Tie as tie
 pub set_single_spec : {M : Type 1} → statement M
 unfolding singling
 set_single_spec = tie.close (tie.spec (λ c κs. search rules)
-    (λ c. let s = c.before.before.before in lacking_left _ 0 (s.args.element ∷ []) (sound_none s.requires) (omega arith) c.refuse.ensures)
+    (λ c. lacking_left _ 0 (c.args.element ∷ []) (sound_none c.requires) (omega arith) c.refuse.ensures)
     (λ c. search rules) (λ c κs. search rules) (λ c κs. search rules) (λ c. search rules)
-    (λ c. let s = c.before.before.before.before.before.before.before.before in
-    served-left _ _ _ (s.args.element ∷ []) (sound_none s.requires) (omega arith) c.before.before.before.store.ensures refl refl c.serve.ensures))
+    (λ c. served-left _ _ _ (c.args.element ∷ []) (sound_none c.requires) (omega arith) c.store.ensures refl refl c.serve.ensures))

@@ -8,10 +8,8 @@ use Rattle.sorted_vec_set.proofs.checked.take_clearing.Tie as tie
 
 pub take_clearing_spec : {M : Type 1} → statement M
 take_clearing_spec = tie.close (tie.spec (λ c κs. search rules)
-    (λ c. lacking_handed c.before.before.before.before.requires c.before.if1.true c.keep.ensures)
+    (λ c. lacking_handed c.requires c.if-others-count.true c.keep.ensures)
     (λ c. search rules) (λ c. simp length-take (omega arith))
-    (λ c κs. let s = c.before.before.before.before.before in (simp length-take (omega arith), s.requires.1.within, s.requires.1.beyond))
+    (λ c κs. (simp length-take (omega arith), c.requires.1.within, c.requires.1.beyond))
     (λ c. search rules) (λ c. simp length-take (omega arith)) (λ c κs. search rules) (λ c κs. search rules) (λ c. search rules) (λ c. search rules)
-    (λ c. let store = c.before.before.before.before.before.before.before in
-    let test = store.before.before.before in
-    served-handed test.before.before.before.requires test.if1.false store.store.ensures c.before.before.before.clear-all.ensures (rw c.answer.ensures)))
+    (λ c. served-handed c.requires c.if-others-count.false c.store.ensures c.clear_all.ensures (rw c.answer.ensures)))

@@ -13,25 +13,19 @@ use Rattle.sorted_vec_set.proofs.checked.toggle.Tie as tie
 pub toggle_spec : {M : Type 1} → statement M
 unfolding toggling members bytes_of
 toggle_spec = tie.close (tie.spec (λ c κs. search rules) (λ c. search rules)
-    (λ c κs. let p = c.before.before in let f = p.before.before in let s = f.before.before.before in
-    let stands = found_at _ _ (sym f.find.ensures ∙ p.p.given.1) in
-    (omega (arith, stands.within, count-is s.requires), s.requires.within))
-    (λ c. let p = c.before.before.before.before.before in let f = p.before.before in let s = f.before.before.before in
-    let stands = found_at _ _ (sym f.find.ensures ∙ p.p.given.1) in
-    omega (arith, stands.within, count-is s.requires))
+    (λ c κs. let stands = found_at _ _ (sym c.find.ensures ∙ c.in-At.is) in
+    (omega (arith, stands.within, count-is c.requires), c.requires.within))
+    (λ c. let stands = found_at _ _ (sym c.find.ensures ∙ c.in-At.is) in
+    omega (arith, stands.within, count-is c.requires))
     (λ c κs. search rules) (λ c. search rules) (λ c κs. search rules) (λ c. search rules)
-    (λ c. let p = c.before.before.before in let f = p.before.before in let s = f.before.before.before in
-    let lacks = found-absent _ _ (sym f.find.ensures ∙ p.p2.given.1) in
-    full-left s.requires lacks (toggle-absent s.requires.ascending lacks) _ c.before.if1.true c.refuse.ensures)
-    (λ c κs. let p = c.before.before.before in let f = p.before.before in let s = f.before.before.before in
-    let lacks = found-absent _ _ (sym f.find.ensures ∙ p.p2.given.1) in
-    (omega (arith, lacks.within, count-is s.requires), omega (arith, s.requires.within)))
-    (λ c. let s = c.before.before.before.before.before.before.before.before.before.before.before in omega (arith, s.requires.few, s.requires.within))
+    (λ c. let lacks = found-absent _ _ (sym c.find.ensures ∙ c.in-Absent.is) in
+    full-left c.requires lacks (toggle-absent c.requires.ascending lacks) _ c.if-count-elements.true c.refuse.ensures)
+    (λ c κs. let lacks = found-absent _ _ (sym c.find.ensures ∙ c.in-Absent.is) in
+    (omega (arith, lacks.within, count-is c.requires), omega (arith, c.requires.within)))
+    (λ c. omega (arith, c.requires.few, c.requires.within))
     (λ c κs. search rules) (λ c. search rules)
-    (λ c. let r = c.before.before.before in let p = r.before.before.before in let f = p.before.before in let s = f.before.before.before in
-    let stands = found_at _ _ (sym f.find.ensures ∙ p.p.given.1) in
-    shrunk_left s.requires stands (toggle-present s.requires.ascending stands) r.remove-at.ensures refl c.serve.ensures)
+    (λ c. let stands = found_at _ _ (sym c.find.ensures ∙ c.in-At.is) in
+    shrunk_left c.requires stands (toggle-present c.requires.ascending stands) c.remove_at.ensures refl c.serve.ensures)
     (λ c. search rules)
-    (λ c. let i = c.before.before.before in let p = i.before.before.before.before in let f = p.before.before in let s = f.before.before.before in
-    let lacks = found-absent _ _ (sym f.find.ensures ∙ p.p2.given.1) in
-    grown-left s.requires lacks (toggle-absent s.requires.ascending lacks) (omega (arith, s.requires.within)) i.insert-at.ensures refl c.serve2.ensures))
+    (λ c. let lacks = found-absent _ _ (sym c.find.ensures ∙ c.in-Absent.is) in
+    grown-left c.requires lacks (toggle-absent c.requires.ascending lacks) (omega (arith, c.requires.within)) c.insert_at.ensures refl c.serve-in-Absent.ensures))

@@ -8,6 +8,6 @@ use Rattle.sorted_vec_set.proofs.checked.xor_assign.Tie as tie
 
 pub xor_assign_spec : {M : Type 1} → statement M
 xor_assign_spec = tie.close (tie.spec (λ c. simp length-take (omega arith))
-    (λ c κs. let s = c.before.before.before.before in (s.requires.0, simp length-take (omega (arith, s.requires.1.few))))
+    (λ c κs. (c.requires.0, simp length-take (omega (arith, c.requires.1.few))))
     (λ c. search rules)
-    (λ c. xored-left _ _ c.before.before.before.before.before.before.before.requires c.before.before.xor-in.ensures))
+    (λ c. xored-left _ _ c.requires c.xor_in.ensures))

@@ -8,8 +8,6 @@ use Rattle.sorted_vec_set.proofs.checked.xor_intersection_into.Tie as tie
 
 pub xor_intersection_into_spec : {M : Type 1} → statement M
 xor_intersection_into_spec = tie.close (tie.spec (λ c κs. search rules) (λ c. simp length-take (omega arith)) (λ c. simp length-take (omega arith))
-    (λ c κs. let s = c.before.before.before.before.before.before.before in
-    (s.requires.0, simp length-take (omega (arith, s.requires.1.few)), simp length-take (omega (arith, s.requires.2.few))))
+    (λ c κs. (c.requires.0, simp length-take (omega (arith, c.requires.1.few)), simp length-take (omega (arith, c.requires.2.few))))
     (λ c. search rules)
-    (λ c. let k = c.before.before.before.before.before.before in
-    shared-left _ _ k.before.before.before.before.requires (rw k.intersection.ensures at c.before.before.fuse-in.ensures)))
+    (λ c. shared-left _ _ c.requires (rw c.intersection.ensures at c.fuse_in.ensures)))

@@ -9,9 +9,8 @@ use Rattle.sorted_vec_set.proofs.xor.fuse_through.Tie as tie
 
 pub fuse_through_spec : {M : Type 1} → statement M
 fuse_through_spec = tie.close (tie.spec (λ c κs. search rules)
-    (λ c. front_fits _ c.before.before.before.merge.ensures)
-    (λ c. let m = c.before.before.before.before in m.merge.ensures.0 ∙ sym (ap length m.merge.ensures.1))
-    (λ c κs. let m = c.before.before.before.before in let s = m.before.before.before.before.before.before in
-    (s.requires.0, omega (arith, front_fits _ m.merge.ensures, m.merge.ensures.0, ap length m.merge.ensures.1, m.merge.auto, s.requires.2)))
+    (λ c. front_fits _ c.merge-n.ensures)
+    (λ c. c.merge-n.ensures.0 ∙ sym (ap length c.merge-n.ensures.1))
+    (λ c κs. (c.requires.0, omega (arith, front_fits _ c.merge-n.ensures, c.merge-n.ensures.0, ap length c.merge-n.ensures.1, c.merge-n.auto, c.requires.2)))
     (λ c. search rules) (λ c. search rules)
-    (λ c. rw c.before.before.before.before.before.before.before.merge.ensures.1 at c.before.before.xor-in.ensures))
+    (λ c. rw c.merge-n.ensures.1 at c.xor_in.ensures))

@@ -6,5 +6,5 @@ use Rattle.sorted_vec_set.proofs.xor.xor_large.Tie as tie
 
 pub xor_large_spec : {M : Type 1} → statement M
 xor_large_spec = tie.close (tie.spec (λ c. search rules)
-    (λ c κs. let s = c.before.before.before.before in (s.requires.0, omega (arith, s.requires.0.few, s.requires.0.within)))
+    (λ c κs. (c.requires.0, omega (arith, c.requires.0.few, c.requires.0.within)))
     (λ c. search rules) (λ c. search rules))
