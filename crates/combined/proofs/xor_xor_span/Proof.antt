@@ -22,9 +22,9 @@ rests : (c : tie.Joined-k-c Inv μ)
     Rest exact (xors g.c.now (xors g.a.now g.b.now)) s.shorter-k.result c.if-k-c.rest
 rests c =
     elim c.if-k-c.branch [
-      then-k-c w ↦ rest-first _ _ _ (search rules) (w.rest-is ∙ w.xor_span-rest.ensures)
-    | else-k-c+then-k-a w ↦ rest-second _ _ _ (search rules) (w.rest-is ∙ w.xor_span.ensures)
-    | else-k-c+else-k-a w ↦ rest-third _ _ _ (search rules) (w.rest-is ∙ w.xor_span-else-k-a.ensures)
+      | then-k-c w ↦ rest-first _ _ _ (search rules) (w.rest-is ∙ w.xor_span-rest.ensures)
+      | else-k-c+then-k-a w ↦ rest-second _ _ _ (search rules) (w.rest-is ∙ w.xor_span.ensures)
+      | else-k-c+else-k-a w ↦ rest-third _ _ _ (search rules) (w.rest-is ∙ w.xor_span-else-k-a.ensures)
     ]
 
 pub xor_xor_span_spec : {M : Type 1} → statement M

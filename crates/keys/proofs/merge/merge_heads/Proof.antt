@@ -1,6 +1,6 @@
 -- `keys::merge::merge_heads` meets its contract.
 use borrow.Author.Rules.{rules}
-use borrow.Author.Tests.{ltb-true, ltb-false}
+use borrow.Author.Tests.{ltb-true}
 use native.Mathlib.Omega.{arith}
 use mathlib.Core.Logic.{inl, inr}
 use Prim.Native.Nat.{◌+◌, ◌-◌}

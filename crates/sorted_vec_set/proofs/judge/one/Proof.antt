@@ -2,7 +2,7 @@
 use borrow.Author.Rules.{rules}
 use native.Mathlib.Omega.{arith}
 use lib.ListN.{length-take}
-use borrow.Author.Tests.{le-leb, lt-leb, not-true, not-false}
+use borrow.Author.Tests.{le-leb, lt-leb}
 use Rattle.answers.specs.Judging.{ranged, sounded, verdict}
 use Rattle.sorted_vec_set.specs.Calls.{in_range, sound, judged, bytes_of}
 use Rattle.sorted_vec_set.proofs.judge.one.Statement.{statement}
