@@ -20,7 +20,7 @@ const LARGEST: usize = 4294967295;
 
 pub fn contains(header: Header, words: &[u64], keys: &[u32], index: usize) -> Answer
     requires { Sound (bytes_of header words.now keys.now) }
-    ensures* { λ r. ⌜ r ≡ (result_of (containing index) (bytes_of header words.now keys.now)).answer ⌝ }
+    ensures { result ≡ (result_of (containing index) (bytes_of header words.now keys.now)).answer }
 {
     if LARGEST < index {
         return refusal(answers::INDEX);
@@ -35,7 +35,7 @@ pub fn contains(header: Header, words: &[u64], keys: &[u32], index: usize) -> An
 // How many members there are: stored, or counted where narrow.
 fn size(header: Header, words: &[u64], keys: &[u32]) -> usize
     requires { Sound (bytes_of header words.now keys.now) }
-    ensures* { λ r. ⌜ r ≡ count (view (bytes_of header words.now keys.now)) ⌝ }
+    ensures { result ≡ count (view (bytes_of header words.now keys.now)) }
 {
     let stored = storage::of(header);
     let Storage::Dense(width) = stored else {
@@ -49,21 +49,21 @@ fn size(header: Header, words: &[u64], keys: &[u32]) -> usize
 
 pub fn len(header: Header, words: &[u64], keys: &[u32]) -> Answer
     requires { Sound (bytes_of header words.now keys.now) }
-    ensures* { λ r. ⌜ r ≡ (result_of counting (bytes_of header words.now keys.now)).answer ⌝ }
+    ensures { result ≡ (result_of counting (bytes_of header words.now keys.now)).answer }
 {
     answer(size(header, words, keys) as u64)
 }
 
 pub fn is_empty(header: Header, words: &[u64], keys: &[u32]) -> Answer
     requires { Sound (bytes_of header words.now keys.now) }
-    ensures* { λ r. ⌜ r ≡ (result_of emptiness (bytes_of header words.now keys.now)).answer ⌝ }
+    ensures { result ≡ (result_of emptiness (bytes_of header words.now keys.now)).answer }
 {
     answer(truth(size(header, words, keys) == 0))
 }
 
 // Served, with a value and the target's new header.
 fn serve(value: u64, header: Header) -> Reply
-    ensures* { λ r. ⌜ r ≡ record { answer = record { number = 0; value = value }; header = header } ⌝ }
+    ensures { result ≡ record { answer = record { number = 0; value = value }; header = header } }
 {
     Reply {
         answer: answer(value),
@@ -73,7 +73,7 @@ fn serve(value: u64, header: Header) -> Reply
 
 pub fn clear(header: Header, words: &mut [u64], keys: &mut [u32]) -> Reply
     requires { Sound (bytes_of header words.old keys.old) }
-    ensures* { λ r. ⌜ left r words.new keys.new ≡ result_of clearing (bytes_of header words.old keys.old) ⌝ }
+    ensures { left result words.new keys.new ≡ result_of clearing (bytes_of header words.old keys.old) }
 {
     let stored = storage::of(header);
     let Storage::Dense(width) = stored else {

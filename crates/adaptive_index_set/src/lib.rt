@@ -45,7 +45,7 @@ impl Header {
 
     // An empty set over words and keys of any contents.
     pub fn prepare(words: &mut [u64], keys: &mut [u32]) -> Reply
-        ensures* { λ r. ⌜ left r words.new keys.new ≡ preparing words.old keys.old ⌝ }
+        ensures { left result words.new keys.new ≡ preparing words.old keys.old }
     {
         let header = Header::narrow(0);
         let answer = check::range(header, words, keys);
@@ -59,7 +59,7 @@ impl Header {
 
     // The header of a narrow set.
     pub fn narrow(span: usize) -> Header
-        ensures* { λ r. ⌜ r ≡ record { mode = 0; span = span; count = 0 } ⌝ }
+        ensures { result ≡ record { mode = 0; span = span; count = 0 } }
     {
         Header {
             mode: Header::DENSE,
@@ -69,7 +69,7 @@ impl Header {
     }
 
     pub fn contains(self, words: &[u64], keys: &[u32], index: usize) -> Answer
-        ensures* { λ r. ⌜ r ≡ (result_of (containing index) (bytes_of self words.now keys.now)).answer ⌝ }
+        ensures { result ≡ (result_of (containing index) (bytes_of self words.now keys.now)).answer }
     {
         let refused = check::one(self, words, keys);
         if refused.number != answers::SERVED {
@@ -79,7 +79,7 @@ impl Header {
     }
 
     pub fn len(self, words: &[u64], keys: &[u32]) -> Answer
-        ensures* { λ r. ⌜ r ≡ (result_of counting (bytes_of self words.now keys.now)).answer ⌝ }
+        ensures { result ≡ (result_of counting (bytes_of self words.now keys.now)).answer }
     {
         let refused = check::one(self, words, keys);
         if refused.number != answers::SERVED {
@@ -89,7 +89,7 @@ impl Header {
     }
 
     pub fn is_empty(self, words: &[u64], keys: &[u32]) -> Answer
-        ensures* { λ r. ⌜ r ≡ (result_of emptiness (bytes_of self words.now keys.now)).answer ⌝ }
+        ensures { result ≡ (result_of emptiness (bytes_of self words.now keys.now)).answer }
     {
         let refused = check::one(self, words, keys);
         if refused.number != answers::SERVED {
@@ -100,7 +100,7 @@ impl Header {
 
     // Takes every index out. A narrow span stays.
     pub fn clear(self, words: &mut [u64], keys: &mut [u32]) -> Reply
-        ensures* { λ r. ⌜ left r words.new keys.new ≡ result_of clearing (bytes_of self words.old keys.old) ⌝ }
+        ensures { left result words.new keys.new ≡ result_of clearing (bytes_of self words.old keys.old) }
     {
         let refused = check::one(self, words, keys);
         if refused.number != answers::SERVED {
