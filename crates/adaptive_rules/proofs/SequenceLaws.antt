@@ -15,7 +15,7 @@ use Rattle.words.proofs.Cases.{clash, same_or_not, and_parts}
 use Rattle.words.proofs.SetLaws.{length-insert, length-remove, length-toggle, length-difference}
 use Rattle.adaptive_rules.specs.States.{State, members, count, is_sparse, prepared}
 use Rattle.adaptive_rules.specs.Rules.{Operand, inserted, removed, toggled, cleared, alone, shared, unshared, xored}
-use Rattle.adaptive_rules.specs.Bytes.{Bytes, in_range, sound, view, encode, Sound, Slices, Fits, Lawful}
+use Rattle.adaptive_rules.specs.Bytes.{Bytes, in_range, view, encode, Sound, Slices, Fits, Lawful}
 use Rattle.adaptive_rules.specs.Calls.{Call, inserting, removing, toggling, containing, counting, emptiness, clearing, spreading, xoring, counting_shared, xoring_shared, xoring_unshared, Effect, keeps, becomes, effect, limited, index, fit, operands, viewed, written, result_of, preparing}
 use Rattle.adaptive_rules.specs.Sequences.{moved, flips, moved_by, flips_of, after, potential}
 use Rattle.adaptive_rules.proofs.RuleLaws.{members-inserted, members-toggled, members-removed, members-cleared, members-xored, sparse-inserted, sparse-toggled, sparse-removed, xored-leaves, inserted-lawful, toggled-lawful, removed-lawful, cleared-lawful, LawfulOperand, alone-lawful, shared-lawful, unshared-lawful, xored-lawful}

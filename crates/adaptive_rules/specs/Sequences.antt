@@ -3,7 +3,7 @@
 use Rattle.std.specs.Bool.{xor}
 use Rattle.std.specs.Prelude.{List, [], ◌∷◌, ℕ, ◌+◌, ◌*◌, eqb, length}
 use Rattle.words.specs.Sets.{pick}
-use Rattle.adaptive_rules.specs.States.{State, members, count, is_sparse}
+use Rattle.adaptive_rules.specs.States.{State, count, is_sparse}
 use Rattle.adaptive_rules.specs.Rules.{shared, unshared}
 use Rattle.adaptive_rules.specs.Bytes.{Bytes, view}
 use Rattle.adaptive_rules.specs.Calls.{Call, inserting, removing, toggling, containing, counting, emptiness, clearing, spreading, xoring, counting_shared, xoring_shared, xoring_unshared, viewed, result_of}
