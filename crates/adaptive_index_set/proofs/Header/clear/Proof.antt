@@ -10,6 +10,6 @@ use Rattle.adaptive_index_set.proofs.Header.clear.Tie as tie
 pub clear_spec : {M : Type 1} → statement M
 unfolding operands
 clear_spec = tie.close (tie.spec (λ c κs. search rules) (λ c. search rules) (λ c. search rules)
-    (λ c. refused-left _ _ _ clearing refl (refused-answer _ c.before.before.one.ensures clearing refl c.if1.true) c.if1.true)
-    (λ c κs. answer-sound _ c.before.before.before.before.one.ensures c.before.before.if1.false) (λ c. search rules) (λ c. search rules)
-    (λ c. c.before.before.before.before.clear.ensures))
+    (λ c. refused-left _ _ _ clearing refl (refused-answer _ c.one-refused.ensures clearing refl c.if-refused-ne-SERVED.true) c.if-refused-ne-SERVED.true)
+    (λ c κs. answer-sound _ c.one-refused.ensures c.if-refused-ne-SERVED.false) (λ c. search rules) (λ c. search rules)
+    (λ c. c.clear.ensures))

@@ -9,6 +9,6 @@ use Rattle.adaptive_index_set.proofs.Header.contains.Tie as tie
 pub contains_spec : {M : Type 1} → statement M
 unfolding operands
 contains_spec = tie.close (tie.spec (λ c κs. search rules)
-    (λ c. refused-answer _ c.before.before.one.ensures (containing _) refl c.if1.true)
-    (λ c κs. answer-sound _ c.before.before.one.ensures c.if1.false)
+    (λ c. refused-answer _ c.one-refused.ensures (containing _) refl c.if-refused-ne-SERVED.true)
+    (λ c κs. answer-sound _ c.one-refused.ensures c.if-refused-ne-SERVED.false)
     (λ c. c.contains.ensures))

@@ -9,6 +9,6 @@ use Rattle.adaptive_index_set.proofs.Header.len.Tie as tie
 pub len_spec : {M : Type 1} → statement M
 unfolding operands
 len_spec = tie.close (tie.spec (λ c κs. search rules)
-    (λ c. refused-answer _ c.before.before.one.ensures counting refl c.if1.true)
-    (λ c κs. answer-sound _ c.before.before.one.ensures c.if1.false)
+    (λ c. refused-answer _ c.one-refused.ensures counting refl c.if-refused-ne-SERVED.true)
+    (λ c κs. answer-sound _ c.one-refused.ensures c.if-refused-ne-SERVED.false)
     (λ c. c.len.ensures))

@@ -6,11 +6,7 @@ use Rattle.adaptive_index_set.proofs.Header.prepare.Tie as tie
 
 pub prepare_spec : {M : Type 1} → statement M
 prepare_spec = tie.close (tie.spec (λ c κs. search rules) (λ c κs. search rules) (λ c. search rules) (λ c. search rules)
-    (λ c. let judged = c.before.before in
-    prepare-refused _ _ judged.before.before.before.narrow.ensures judged.range.ensures c.if1.true)
+    (λ c. prepare-refused _ _ c.narrow-header.ensures c.range-answer.ensures c.if-answer-ne-SERVED.true)
     (λ c κs. search rules) (λ c κs. search rules) (λ c. search rules) (λ c. search rules)
-    (λ c. let emptied = c.before.before in
-    let cleared = emptied.before.before.before.before in
-    let judged = cleared.before.before.before.before in
-    prepare-served _ _ judged.before.before.before.narrow.ensures judged.range.ensures cleared.before.before.if1.false
-    cleared.clear-all.ensures emptied.clear-all2.ensures))
+    (λ c. prepare-served _ _ c.narrow-header.ensures c.range-answer.ensures c.if-answer-ne-SERVED.false
+    c.clear_all.ensures c.clear_all-2.ensures))

@@ -11,4 +11,4 @@ pub is_sound_spec : {M : Type 1} → statement M
 unfolding bytes_of sound
 is_sound_spec = tie.close (tie.spec (λ c κs. search rules) (λ c. search rules) (λ c κs. search rules) (λ c. search rules)
     (λ c κs. search rules) (λ c. search rules)
-    (λ c. rw (ne_eqb _ _ c.before.before.if1.false, ne_eqb _ _ c.if3.false, and-false)))
+    (λ c. rw (ne_eqb _ _ c.if-header-eq-DENSE.false, ne_eqb _ _ c.if-header-eq-SPARSE.false, and-false)))

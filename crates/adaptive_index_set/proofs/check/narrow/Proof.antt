@@ -9,7 +9,6 @@ use Rattle.adaptive_index_set.proofs.check.narrow.Tie as tie
 pub narrow_spec : {M : Type 1} → statement M
 unfolding bytes_of
 narrow_spec = tie.close (tie.spec
-    (λ c κs. let start = c.before.before.before in let lent = lent_of start.requires.0 in omega arith)
+    (λ c κs. let lent = lent_of c.requires.0 in omega arith)
     (λ c κs. search rules)
-    (λ c. let start = c.before.before.before.before.before in
-    rw (c.before.zero-from.ensures, c.zero-from2.ensures) (sound-narrow _ start.requires.1 start.requires.2)))
+    (λ c. rw (c.zero_from.ensures, c.zero_from-2.ensures) (sound-narrow _ c.requires.1 c.requires.2)))

@@ -8,7 +8,6 @@ use Rattle.adaptive_index_set.proofs.check.one.Tie as tie
 
 pub one_spec : {M : Type 1} → statement M
 one_spec = tie.close (tie.spec (λ c κs. search rules)
-    (λ c. let judged = c.before.before.range.ensures in judged ∙ sym (one_refused _ (rw judged at c.if1.true)))
-    (λ c κs. range_in _ (rw c.before.before.range.ensures at c.if1.false))
-    (λ c. let test = c.before in
-    c.verdict.ensures ∙ sym (one_judged _ (rw test.before.before.range.ensures at test.if1.false))))
+    (λ c. let judged = c.range-lent.ensures in judged ∙ sym (one_refused _ (rw judged at c.if-lent-ne-SERVED.true)))
+    (λ c κs. range_in _ (rw c.range-lent.ensures at c.if-lent-ne-SERVED.false))
+    (λ c. c.verdict.ensures ∙ sym (one_judged _ (rw c.range-lent.ensures at c.if-lent-ne-SERVED.false))))

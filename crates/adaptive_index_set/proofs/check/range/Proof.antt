@@ -10,12 +10,10 @@ use Rattle.adaptive_index_set.proofs.check.range.Tie as tie
 pub range_spec : {M : Type 1} → statement M
 unfolding range refusal in_range bytes_of
 range_spec = tie.close (tie.spec (λ c κs. search rules)
-    (λ c. rw (c.refusal.ensures, lt-leb _ _ c.before.if1.true))
+    (λ c. rw (c.refusal.ensures, lt-leb _ _ c.if-words-lt-FEWEST_WORDS.true))
     (λ c κs. search rules)
-    (λ c. let f = c.before in rw (c.refusal2.ensures, le-leb _ _ f.before.if1.false, lt-leb _ _ f.if2.true))
+    (λ c. rw (c.refusal-then-words-gt-MOST_WORDS.ensures, le-leb _ _ c.if-words-lt-FEWEST_WORDS.false, lt-leb _ _ c.if-words-gt-MOST_WORDS.true))
     (λ c κs. search rules)
-    (λ c. let f = c.before in
-    rw (c.refusal3.ensures, le-leb _ _ f.before.before.if1.false, le-leb _ _ f.before.if2.false, lt-leb _ _ f.if3.true))
+    (λ c. rw (c.refusal-then-keys-gt-MOST_KEYS.ensures, le-leb _ _ c.if-words-lt-FEWEST_WORDS.false, le-leb _ _ c.if-words-gt-MOST_WORDS.false, lt-leb _ _ c.if-keys-gt-MOST_KEYS.true))
     (λ c κs. search rules)
-    (λ c. let f = c.before in
-    rw (c.answer.ensures, le-leb _ _ f.before.before.if1.false, le-leb _ _ f.before.if2.false, le-leb _ _ f.if3.false)))
+    (λ c. rw (c.answer.ensures, le-leb _ _ c.if-words-lt-FEWEST_WORDS.false, le-leb _ _ c.if-words-gt-MOST_WORDS.false, le-leb _ _ c.if-keys-gt-MOST_KEYS.false)))

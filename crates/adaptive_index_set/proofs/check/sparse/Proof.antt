@@ -10,10 +10,8 @@ use Rattle.adaptive_index_set.proofs.check.sparse.Tie as tie
 pub sparse_spec : {M : Type 1} → statement M
 unfolding bytes_of
 sparse_spec = tie.close (tie.spec
-    (λ c. sparse-long _ c.before.before.before.requires.1 c.if1.true)
+    (λ c. sparse-long _ c.requires.1 c.if-keys-count.true)
     (λ c. simp length-take (omega arith))
     (λ c κs. search rules) (λ c κs. search rules) (λ c κs. search rules)
-    (λ c. let ordered = c.before.before in
-    let test = ordered.before.before.before in
-    rw (ordered.ascending.ensures, c.before.zero-from.ensures, c.zero-from2.ensures)
-    (sound-sparse _ test.before.before.before.requires.1 test.if1.false)))
+    (λ c. rw (c.ascending.ensures, c.zero_from.ensures, c.zero_from-2.ensures)
+    (sound-sparse _ c.requires.1 c.if-keys-count.false)))

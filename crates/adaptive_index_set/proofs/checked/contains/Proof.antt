@@ -20,30 +20,22 @@ use Rattle.adaptive_index_set.proofs.checked.contains.Tie as tie
 pub contains_spec : {M : Type 1} → statement M
 unfolding bytes_of
 contains_spec = tie.close (tie.spec (λ c κs. search rules)
-    (λ c. index-answer c.before.before.before.before.requires _ c.before.if1.true c.refusal.ensures)
+    (λ c. index-answer c.requires _ c.if-index-gt-LARGEST.true c.refusal.ensures)
     (λ c κs. search rules) (λ c. search rules) (λ c. search rules) (λ c κs. search rules) (λ c κs. search rules) (λ c κs. search rules)
-    (λ c. let o = c.before.before.before.before.before in
-    let s = o.before.before.before.before in
-    let d = in_words _ (sym o.of.ensures ∙ c.before.before.before.enum_told.given.1) in
-    contained_answer s.requires s.args.index o.before.if1.false
-    (c.before.truth.ensures ∙ ap truth (c.before.before.contains.ensures ∙ sym (has-members _ s.args.index)
-    ∙ ap (λ (l : List ℕ). has l s.args.index) (sym (members_dense s.args.header s.args.words.now s.args.keys.now d.0))))
+    (λ c. let d = in_words _ (sym c.of-stored.ensures ∙ c.in_default.is) in
+    contained_answer c.requires c.args.index c.if-index-gt-LARGEST.false
+    (c.truth.ensures ∙ ap truth (c.contains.ensures ∙ sym (has-members _ c.args.index)
+    ∙ ap (λ (l : List ℕ). has l c.args.index) (sym (members_dense c.args.header c.args.words.now c.args.keys.now d.0))))
     c.answer.ensures)
-    (λ c. let o = c.before.before.before.before in
-    let s = o.before.before.before.before in
-    let d = in_keys _ (sym o.of.ensures ∙ c.before.before.stored.given.1) in
-    let x = sparse-shape s.args.header s.args.words.now s.args.keys.now s.requires d.0 in
+    (λ c. let d = in_keys _ (sym c.of-stored.ensures ∙ c.in-Sparse.is) in
+    let x = sparse-shape c.args.header c.args.words.now c.args.keys.now c.requires d.0 in
     sym (length-take-le _ _ (omega (arith, x.room, d.1))))
     (λ c. search rules)
-    (λ c κs. let o = c.before.before.before.before in
-    let s = o.before.before.before.before in
-    let d = in_keys _ (sym o.of.ensures ∙ c.before.before.stored.given.1) in
-    rw d.1 (sparse-shape s.args.header s.args.words.now s.args.keys.now s.requires d.0).ascending)
+    (λ c κs. let d = in_keys _ (sym c.of-stored.ensures ∙ c.in-Sparse.is) in
+    rw d.1 (sparse-shape c.args.header c.args.words.now c.args.keys.now c.requires d.0).ascending)
     (λ c κs. search rules)
-    (λ c. let o = c.before.before.before.before.before.before in
-    let s = o.before.before.before.before in
-    let d = in_keys _ (sym o.of.ensures ∙ c.before.before.before.before.stored.given.1) in
-    contained_answer s.requires s.args.index o.before.if1.false
-    (ap truth (ap present c.before.lookup.ensures ∙ found-present _ _
-    ∙ rw d.1 (ap (λ (l : List ℕ). has l s.args.index) (sym (ap members (view-sparse s.args.header s.args.words.now s.args.keys.now d.0))))))
+    (λ c. let d = in_keys _ (sym c.of-stored.ensures ∙ c.in-Sparse.is) in
+    contained_answer c.requires c.args.index c.if-index-gt-LARGEST.false
+    (ap truth (ap present c.lookup.ensures ∙ found-present _ _
+    ∙ rw d.1 (ap (λ (l : List ℕ). has l c.args.index) (sym (ap members (view-sparse c.args.header c.args.words.now c.args.keys.now d.0))))))
     (c.told.ensures ∙ told_is _)))

@@ -5,4 +5,4 @@ use Rattle.adaptive_index_set.proofs.checked.is_empty.Statement.{statement}
 use Rattle.adaptive_index_set.proofs.checked.is_empty.Tie as tie
 
 pub is_empty_spec : {M : Type 1} → statement M
-is_empty_spec = tie.close (tie.spec (λ c κs. search rules) (λ c κs. search rules) (λ c κs. search rules) (λ c. empty_answer c.before.before.before.before.before.requires c.before.before.size.ensures c.before.truth.ensures c.answer.ensures))
+is_empty_spec = tie.close (tie.spec (λ c κs. search rules) (λ c κs. search rules) (λ c κs. search rules) (λ c. empty_answer c.requires c.size.ensures c.truth.ensures c.answer.ensures))

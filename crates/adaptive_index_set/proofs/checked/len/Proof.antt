@@ -5,4 +5,4 @@ use Rattle.adaptive_index_set.proofs.checked.len.Statement.{statement}
 use Rattle.adaptive_index_set.proofs.checked.len.Tie as tie
 
 pub len_spec : {M : Type 1} → statement M
-len_spec = tie.close (tie.spec (λ c κs. search rules) (λ c κs. search rules) (λ c. counted-answer c.before.before.before.before.requires c.before.size.ensures c.answer.ensures))
+len_spec = tie.close (tie.spec (λ c κs. search rules) (λ c κs. search rules) (λ c. counted-answer c.requires c.size.ensures c.answer.ensures))

@@ -14,29 +14,20 @@ use Rattle.adaptive_index_set.proofs.checked.size.Tie as tie
 pub size_spec : {M : Type 1} → statement M
 unfolding count
 size_spec = tie.close (tie.spec (λ c κs. search rules) (λ c. search rules) (λ c. search rules)
-    (λ c. let o = c.before.before in
-    let s = o.before.before.before in
-    let d = in_keys _ (sym o.of.ensures ∙ c.enum_told.given.1) in
-    count-stored s.args.header s.args.words.now s.args.keys.now s.requires
-    (ap is_narrow (view-sparse s.args.header s.args.words.now s.args.keys.now d.0)))
+    (λ c. let d = in_keys _ (sym c.of-stored.ensures ∙ c.in_default.is) in
+    count-stored c.args.header c.args.words.now c.args.keys.now c.requires
+    (ap is_narrow (view-sparse c.args.header c.args.words.now c.args.keys.now d.0)))
     (λ c. search rules) (λ c. search rules)
-    (λ c. let o = c.before.before.before.before.before in
-    let s = o.before.before.before in
-    let d = in_words _ (sym o.of.ensures ∙ c.before.before.before.stored.given.1) in
-    let w = is_wide s.args.header (sym d.1 ∙ c.enum-told2.given.1) in
-    count-stored s.args.header s.args.words.now s.args.keys.now s.requires
-    (ap is_narrow (view-wide s.args.header s.args.words.now s.args.keys.now d.0 w.0)))
-    (λ c. let o = c.before.before.before.before.before.before.before in
-    let s = o.before.before.before in
-    let d = in_words _ (sym o.of.ensures ∙ c.before.before.before.before.before.stored.given.1) in
-    let w = is-narrow s.args.header (sym d.1 ∙ c.before.before.width.given.1) in
-    sym (length-take-le _ _ (omega (arith, w.0, w.1, (lent s.args.header s.args.words.now s.args.keys.now s.requires).0))))
-    (λ c κs. let s = c.before.before.before.before.before.before.before.before.before.before in
-    simp length-take (omega (arith, (lent s.args.header s.args.words.now s.args.keys.now s.requires).1)))
-    (λ c. let o = c.before.before.before.before.before.before.before.before in
-    let s = o.before.before.before in
-    let d = in_words _ (sym o.of.ensures ∙ c.before.before.before.before.before.before.stored.given.1) in
-    let w = is-narrow s.args.header (sym d.1 ∙ c.before.before.before.width.given.1) in
-    c.count-all.ensures
-    ∙ rw w.1 (ap length (members_front s.args.header.span s.args.words.now (dense-zeros s.args.header s.args.words.now s.args.keys.now s.requires d.0).0
-    ∙ sym (members_dense s.args.header s.args.words.now s.args.keys.now d.0)))))
+    (λ c. let d = in_words _ (sym c.of-stored.ensures ∙ c.in-Dense.is) in
+    let w = is_wide c.args.header (sym d.1 ∙ c.in_default-width.is) in
+    count-stored c.args.header c.args.words.now c.args.keys.now c.requires
+    (ap is_narrow (view-wide c.args.header c.args.words.now c.args.keys.now d.0 w.0)))
+    (λ c. let d = in_words _ (sym c.of-stored.ensures ∙ c.in-Dense.is) in
+    let w = is-narrow c.args.header (sym d.1 ∙ c.in-Narrow.is) in
+    sym (length-take-le _ _ (omega (arith, w.0, w.1, (lent c.args.header c.args.words.now c.args.keys.now c.requires).0))))
+    (λ c κs. simp length-take (omega (arith, (lent c.args.header c.args.words.now c.args.keys.now c.requires).1)))
+    (λ c. let d = in_words _ (sym c.of-stored.ensures ∙ c.in-Dense.is) in
+    let w = is-narrow c.args.header (sym d.1 ∙ c.in-Narrow.is) in
+    c.count_all.ensures
+    ∙ rw w.1 (ap length (members_front c.args.header.span c.args.words.now (dense-zeros c.args.header c.args.words.now c.args.keys.now c.requires d.0).0
+    ∙ sym (members_dense c.args.header c.args.words.now c.args.keys.now d.0)))))

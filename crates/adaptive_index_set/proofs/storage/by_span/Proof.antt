@@ -6,4 +6,4 @@ use Rattle.adaptive_index_set.proofs.storage.by_span.Tie as tie
 
 pub by_span_spec : {M : Type 1} → statement M
 unfolding width_of
-by_span_spec = tie.close (tie.spec (λ c. rw (le-leb _ _ c.if1.true)) (λ c. rw (lt-leb _ _ c.if1.false)))
+by_span_spec = tie.close (tie.spec (λ c. rw (le-leb _ _ c.if-header-le-NARROW.true)) (λ c. rw (lt-leb _ _ c.if-header-le-NARROW.false)))

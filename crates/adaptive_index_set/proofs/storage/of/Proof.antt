@@ -7,4 +7,4 @@ use Rattle.adaptive_index_set.proofs.storage.of.Tie as tie
 
 pub of_spec : {M : Type 1} → statement M
 unfolding storage_of
-of_spec = tie.close (tie.spec (λ c κs. search rules) (λ c. rw (c.by_span.ensures, eq-eqb _ _ c.before.if1.true)) (λ c. rw (ne_eqb _ _ c.if1.false)))
+of_spec = tie.close (tie.spec (λ c κs. search rules) (λ c. rw (c.by_span.ensures, eq-eqb _ _ c.if-header-eq-DENSE.true)) (λ c. rw (ne_eqb _ _ c.if-header-eq-DENSE.false)))
