@@ -4,7 +4,6 @@ use Prim.Native.Nat.{ℕ, ◌≤◌, ◌<◌}
 use lib.Dec.{eqb}
 use borrow.Author.Tests.{le-leb, lt-leb}
 use Rattle.words.specs.Sets.{has}
-use Rattle.words.specs.Words as words
 use Rattle.answers.specs.declared.Answer.{Answer}
 use Rattle.answers.specs.Answers.{truth}
 use Rattle.adaptive_rules.specs.States.{members, count}
