@@ -10,6 +10,6 @@ use Rattle.bitset.proofs.BitSet.contains.Tie as tie
 pub contains_spec : {M : Type 1} → statement M
 unfolding containing
 contains_spec = tie.close (tie.spec (λ c κs. search rules) (λ c κs. search rules)
-    (λ c. refused-answer _ c.before.before.one.ensures c.before.if1.true c.refusal.ensures)
-    (λ c κs. none-sound (sym c.before.one.ensures ∙ c.if1.false))
+    (λ c. refused-answer _ c.one-number.ensures c.if-number-ne-SERVED.true c.refusal.ensures)
+    (λ c κs. none-sound (sym c.one-number.ensures ∙ c.if-number-ne-SERVED.false))
     (λ c. c.contains.ensures))

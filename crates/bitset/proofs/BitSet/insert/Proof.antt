@@ -9,6 +9,6 @@ use Rattle.bitset.proofs.BitSet.insert.Tie as tie
 pub insert_spec : {M : Type 1} → statement M
 unfolding inserting
 insert_spec = tie.close (tie.spec (λ c κs. search rules) (λ c κs. search rules) (λ c. search rules)
-    (λ c. refused-left _ _ _ c.before.before.one.ensures c.before.if1.true c.refuse.ensures)
-    (λ c κs. none-sound (sym c.before.before.one.ensures ∙ c.before.if1.false)) (λ c. search rules)
-    (λ c. c.before.before.insert.ensures))
+    (λ c. refused-left _ _ _ c.one-number.ensures c.if-number-ne-SERVED.true c.refuse.ensures)
+    (λ c κs. none-sound (sym c.one-number.ensures ∙ c.if-number-ne-SERVED.false)) (λ c. search rules)
+    (λ c. c.insert.ensures))

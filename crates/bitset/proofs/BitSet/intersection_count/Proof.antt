@@ -10,6 +10,6 @@ use Rattle.bitset.proofs.BitSet.intersection_count.Tie as tie
 pub intersection_count_spec : {M : Type 1} → statement M
 unfolding counting_shared
 intersection_count_spec = tie.close (tie.spec (λ c κs. search rules) (λ c κs. search rules)
-    (λ c. refused-answer _ c.before.before.two.ensures c.before.if1.true c.refusal.ensures)
-    (λ c κs. two_sound (sym c.before.two.ensures ∙ c.if1.false))
-    (λ c. c.intersection-count.ensures))
+    (λ c. refused-answer _ c.two-number.ensures c.if-number-ne-SERVED.true c.refusal.ensures)
+    (λ c κs. two_sound (sym c.two-number.ensures ∙ c.if-number-ne-SERVED.false))
+    (λ c. c.intersection_count.ensures))

@@ -10,7 +10,7 @@ use Rattle.bitset.proofs.BitSet.new.Tie as tie
 pub new_spec : {M : Type 1} → statement M
 unfolding preparing left
 new_spec = tie.close (tie.spec (λ c κs. search rules)
-    (λ c. rw (c.refuse.ensures, lt-leb (length c.before.before.before.args.words.now) 8192 c.before.if1.true))
+    (λ c. rw (c.refuse.ensures, lt-leb (length c.args.words.now) 8192 c.if-words-gt-WORDS.true))
     (λ c κs. search rules) (λ c κs. search rules) (λ c. search rules)
-    (λ c. let words = c.before.before.before.before.before.before.before.args.words.now in
-    rw (c.serve.ensures, c.before.before.before.clear-all.ensures, le-leb (length words) 8192 (omega arith))))
+    (λ c. let words = c.args.words.now in
+    rw (c.serve.ensures, c.clear_all.ensures, le-leb (length words) 8192 (omega arith))))

@@ -11,15 +11,11 @@ pub xor_assign_slice_spec : {M : Type 1} → statement M
 unfolding flipping
 xor_assign_slice_spec = tie.close (tie.spec (λ c κs. search rules) (λ c κs. search rules) (λ c κs. search rules)
     (λ c κs. search rules) (λ c. search rules)
-    (λ c. let judged = c.before.before in
-    let listed = judged.before.before.before in
-    let indices = listed.before.before.before.args.indices.now in
-    refused-left _ _ _ (judged_with indices _ listed.list.ensures judged.before.one.ensures judged.earlier.ensures)
-    c.before.if1.true c.refuse.ensures)
-    (λ c κs. let judged = c.before.before in
-    let listed = judged.before.before.before in
-    let indices = listed.before.before.before.args.indices.now in
-    let number = judged_with indices _ listed.list.ensures judged.before.one.ensures judged.earlier.ensures in
-    let parts = with_none indices _ (sym number ∙ c.before.if1.false) in
+    (λ c. let indices = c.args.indices.now in
+    refused-left _ _ _ (judged_with indices _ c.list.ensures c.one.ensures c.earlier-number.ensures)
+    c.if-number-ne-SERVED.true c.refuse.ensures)
+    (λ c κs. let indices = c.args.indices.now in
+    let number = judged_with indices _ c.list.ensures c.one.ensures c.earlier-number.ensures in
+    let parts = with_none indices _ (sym number ∙ c.if-number-ne-SERVED.false) in
     (none-sound parts.1, parts.0))
-    (λ c. search rules) (λ c. c.before.before.xor-assign-slice.ensures))
+    (λ c. search rules) (λ c. c.xor_assign_slice.ensures))

@@ -11,16 +11,12 @@ pub xor_intersection_slice_spec : {M : Type 1} → statement M
 unfolding flipping_shared
 xor_intersection_slice_spec = tie.close (tie.spec (λ c κs. search rules) (λ c κs. search rules) (λ c κs. search rules)
     (λ c κs. search rules) (λ c. search rules)
-    (λ c. let judged = c.before.before in
-    let listed = judged.before.before.before in
-    let indices = listed.before.before.before.before.args.indices.now in
-    refused-left _ _ _ (judged_with indices _ listed.list.ensures judged.before.two.ensures judged.earlier.ensures)
-    c.before.if1.true c.refuse.ensures)
-    (λ c κs. let judged = c.before.before in
-    let listed = judged.before.before.before in
-    let indices = listed.before.before.before.before.args.indices.now in
-    let number = judged_with indices _ listed.list.ensures judged.before.two.ensures judged.earlier.ensures in
-    let parts = with_none indices _ (sym number ∙ c.before.if1.false) in
+    (λ c. let indices = c.args.indices.now in
+    refused-left _ _ _ (judged_with indices _ c.list.ensures c.two.ensures c.earlier-number.ensures)
+    c.if-number-ne-SERVED.true c.refuse.ensures)
+    (λ c κs. let indices = c.args.indices.now in
+    let number = judged_with indices _ c.list.ensures c.two.ensures c.earlier-number.ensures in
+    let parts = with_none indices _ (sym number ∙ c.if-number-ne-SERVED.false) in
     let sets = two_sound parts.1 in
     (sets.0, sets.1, parts.0))
-    (λ c. search rules) (λ c. c.before.before.xor-intersection-slice.ensures))
+    (λ c. search rules) (λ c. c.xor_intersection_slice.ensures))

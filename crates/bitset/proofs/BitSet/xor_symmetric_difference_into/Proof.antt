@@ -9,6 +9,6 @@ use Rattle.bitset.proofs.BitSet.xor_symmetric_difference_into.Tie as tie
 pub xor_symmetric_difference_into_spec : {M : Type 1} → statement M
 unfolding xoring_unshared
 xor_symmetric_difference_into_spec = tie.close (tie.spec (λ c κs. search rules) (λ c κs. search rules) (λ c. search rules)
-    (λ c. refused-left _ _ _ c.before.before.three.ensures c.before.if1.true c.refuse.ensures)
-    (λ c κs. three_sound (sym c.before.before.three.ensures ∙ c.before.if1.false)) (λ c. search rules)
-    (λ c. c.before.before.xor-symmetric-difference-into.ensures))
+    (λ c. refused-left _ _ _ c.three-number.ensures c.if-number-ne-SERVED.true c.refuse.ensures)
+    (λ c κs. three_sound (sym c.three-number.ensures ∙ c.if-number-ne-SERVED.false)) (λ c. search rules)
+    (λ c. c.xor_symmetric_difference_into.ensures))

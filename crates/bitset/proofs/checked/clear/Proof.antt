@@ -9,5 +9,5 @@ use Rattle.bitset.proofs.checked.clear.Tie as tie
 pub clear_spec : {M : Type 1} → statement M
 clear_spec = tie.close (tie.spec (λ c. search rules) (λ c. simp length-take (omega arith))
     (λ c κs. search rules) (λ c κs. search rules) (λ c. search rules)
-    (λ c. cleared-left c.before.before.before.before.before.before.requires c.before.before.before.clear-all.ensures
-    (λ k. (c.before.slice-known2.given k).fits) c.serve.ensures))
+    (λ c. cleared-left c.requires c.clear_all.ensures
+    (λ k. (c.slice_known-2-1.given k).fits) c.serve.ensures))

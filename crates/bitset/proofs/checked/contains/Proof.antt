@@ -6,5 +6,5 @@ use Rattle.bitset.proofs.checked.contains.Tie as tie
 
 pub contains_spec : {M : Type 1} → statement M
 contains_spec = tie.close (tie.spec (λ c κs. search rules) (λ c κs. search rules) (λ c κs. search rules)
-    (λ c. contained_answer _ c.before.before.before.before.requires c.before.before.contains.ensures
-    c.before.truth.ensures c.answer.ensures))
+    (λ c. contained_answer _ c.requires c.contains.ensures
+    c.truth.ensures c.answer.ensures))

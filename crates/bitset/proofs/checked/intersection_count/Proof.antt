@@ -9,4 +9,4 @@ use Rattle.bitset.proofs.checked.intersection_count.Tie as tie
 pub intersection_count_spec : {M : Type 1} → statement M
 intersection_count_spec = tie.close (tie.spec (λ c. simp length-take (omega arith)) (λ c. simp length-take (omega arith))
     (λ c κs. simp length-take (omega arith)) (λ c κs. search rules)
-    (λ c. shared-answer c.before.before.before.before.before.before.requires c.before.and-count.ensures c.answer.ensures))
+    (λ c. shared-answer c.requires c.and_count.ensures c.answer.ensures))

@@ -8,5 +8,5 @@ use Rattle.bitset.proofs.checked.is_empty.Tie as tie
 
 pub is_empty_spec : {M : Type 1} → statement M
 is_empty_spec = tie.close (tie.spec (λ c. simp length-take (omega arith)) (λ c κs. search rules) (λ c κs. search rules) (λ c κs. search rules)
-    (λ c. empty_answer c.before.before.before.before.before.requires (λ k. (c.before.before.before.before.shared-slice-known.given k).fits)
-    c.before.before.zero-from.ensures c.before.truth.ensures c.answer.ensures))
+    (λ c. empty_answer c.requires (λ k. (c.shared_slice_known-1.given k).fits)
+    c.zero_from.ensures c.truth.ensures c.answer.ensures))

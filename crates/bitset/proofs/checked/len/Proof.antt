@@ -8,4 +8,4 @@ use Rattle.bitset.proofs.checked.len.Tie as tie
 
 pub len_spec : {M : Type 1} → statement M
 len_spec = tie.close (tie.spec (λ c. simp length-take (omega arith)) (λ c κs. simp length-take (omega arith)) (λ c κs. search rules)
-    (λ c. counted-answer c.before.before.before.before.requires c.before.count-all.ensures c.answer.ensures))
+    (λ c. counted-answer c.requires c.count_all.ensures c.answer.ensures))

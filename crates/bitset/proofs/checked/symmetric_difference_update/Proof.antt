@@ -12,11 +12,9 @@ use Rattle.bitset.proofs.checked.symmetric_difference_update.Tie as tie
 pub symmetric_difference_update_spec : {M : Type 1} → statement M
 unfolding xoring xored view bytes_of
 symmetric_difference_update_spec = tie.close (tie.spec (λ c κs. search rules)
-    (λ c. beyond-left _ _ _ (two_none c.before.before.before.before.requires) (omega arith) c.refuse.ensures)
+    (λ c. beyond-left _ _ _ (two_none c.requires) (omega arith) c.refuse.ensures)
     (λ c. simp length-take (omega arith)) (λ c κs. search rules) (λ c κs. search rules) (λ c κs. search rules) (λ c. search rules)
-    (λ c. let after = c.before.before in
-    let at_call = after.before.before in
-    let given = at_call.before.before.before.before.before.before.requires in
+    (λ c. let given = c.requires in
     xored-left _ _ given.0 (two_none given) (omega arith)
-    at_call.xor-in.ensures (simp length-take (omega arith)) (front_members given.1) (λ k. (after.slice-known2.given k).fits)
-    c.before.larger.ensures c.serve.ensures))
+    c.xor_in.ensures (simp length-take (omega arith)) (front_members given.1) (λ k. (c.slice_known-2-1.given k).fits)
+    c.larger.ensures c.serve.ensures))

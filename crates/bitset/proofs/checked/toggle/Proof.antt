@@ -14,11 +14,8 @@ use Rattle.bitset.proofs.checked.toggle.Tie as tie
 pub toggle_spec : {M : Type 1} → statement M
 unfolding toggling toggled reaching view bytes_of
 toggle_spec = tie.close (tie.spec (λ c κs. search rules) (λ c κs. search rules)
-    (λ c. beyond-left _ _ _ (sound_none c.before.before.before.before.requires) (omega arith) c.refuse.ensures)
+    (λ c. beyond-left _ _ _ (sound_none c.requires) (omega arith) c.refuse.ensures)
     (λ c κs. search rules) (λ c κs. search rules) (λ c. search rules) (λ c κs. search rules) (λ c κs. search rules) (λ c. search rules)
-    (λ c. let after = c.before.before.before in
-    let at_call = after.before.before in
-    let start = at_call.before.before.before.before.before in
-    changed-left start.args.index (λ t. truth (not t)) start.requires at_call.flip-at.ensures (members-flip _ _ (omega arith))
-    at_call.flip-at.auto.0 (λ k. (after.slice-known2.given k).fits)
-    c.before.before.truth.ensures (omega arith) (omega arith) c.serve.ensures))
+    (λ c. changed-left c.args.index (λ t. truth (not t)) c.requires c.flip_at-was.ensures (members-flip _ _ (omega arith))
+    c.flip_at-was.auto.words (λ k. (c.slice_known-2-1.given k).fits)
+    c.truth.ensures (omega arith) (omega arith) c.serve.ensures))

@@ -11,13 +11,9 @@ use Rattle.bitset.proofs.checked.xor_assign_slice.Tie as tie
 pub xor_assign_slice_spec : {M : Type 1} → statement M
 unfolding flipping
 xor_assign_slice_spec = tie.close (tie.spec (λ c κs. search rules) (λ c κs. search rules)
-    (λ c. let measured = c.before.before in
-    let start = measured.before.before.before in
-    flipped-beyond _ (short_none start.args.indices.now _ start.requires.1 (sound_none start.requires.0)) refl measured.span.ensures
-    c.before.if1.true c.refuse.ensures)
-    (λ c κs. reached-below _ _ _ (rw c.before.before.span.ensures at c.before.if1.false))
+    (λ c. flipped-beyond _ (short_none c.args.indices.now _ c.requires.1 (sound_none c.requires.0)) refl c.span-span.ensures
+    c.if-words-span.true c.refuse.ensures)
+    (λ c κs. reached-below _ _ _ (rw c.span-span.ensures at c.if-words-span.false))
     (λ c κs. search rules) (λ c. search rules)
-    (λ c. let test = c.before.before.before.before.before in
-    let start = test.before.before.before.before in
-    flipped-left _ _ (short_none start.args.indices.now _ start.requires.1 (sound_none start.requires.0)) refl test.before.span.ensures
-    test.if1.false c.before.before.before.flip.ensures (λ k. (c.before.slice-known2.given k).fits) c.serve.ensures))
+    (λ c. flipped-left _ _ (short_none c.args.indices.now _ c.requires.1 (sound_none c.requires.0)) refl c.span-span.ensures
+    c.if-words-span.false c.flip.ensures (λ k. (c.slice_known-2-1.given k).fits) c.serve.ensures))

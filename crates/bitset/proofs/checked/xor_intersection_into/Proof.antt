@@ -13,12 +13,10 @@ use Rattle.bitset.proofs.checked.xor_intersection_into.Tie as tie
 pub xor_intersection_into_spec : {M : Type 1} → statement M
 unfolding xoring_shared xored shared view bytes_of
 xor_intersection_into_spec = tie.close (tie.spec (λ c κs. search rules) (λ c κs. search rules)
-    (λ c. beyond-left _ _ _ (three_none c.before.before.before.before.before.before.requires) (omega arith) c.refuse.ensures)
+    (λ c. beyond-left _ _ _ (three_none c.requires) (omega arith) c.refuse.ensures)
     (λ c. simp length-take (omega arith)) (λ c. simp length-take (omega arith)) (λ c κs. search rules)
     (λ c κs. search rules) (λ c κs. search rules) (λ c. search rules)
-    (λ c. let after = c.before.before in
-    let at_call = after.before.before in
-    let given = at_call.before.before.before.before.before.before.before.before.before.requires in
+    (λ c. let given = c.requires in
     xored-left _ _ given.0 (three_none given) (omega arith)
-    at_call.xor-in-and.ensures (simp (length-ands, length-take) (omega arith)) (shared-members given.1 given.2)
-    (λ k. (after.slice-known2.given k).fits) (omega arith) c.serve.ensures))
+    c.xor_in_and.ensures (simp (length-ands, length-take) (omega arith)) (shared-members given.1 given.2)
+    (λ k. (c.slice_known-2-1.given k).fits) (omega arith) c.serve.ensures))

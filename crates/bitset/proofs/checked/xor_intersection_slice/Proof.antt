@@ -10,14 +10,10 @@ use Rattle.bitset.proofs.checked.xor_intersection_slice.Tie as tie
 pub xor_intersection_slice_spec : {M : Type 1} → statement M
 unfolding flipping_shared bytes_of
 xor_intersection_slice_spec = tie.close (tie.spec (λ c κs. search rules) (λ c κs. search rules)
-    (λ c. let measured = c.before.before in
-    let start = measured.before.before.before.before in
-    flipped-beyond _ (short_none start.args.indices.now _ start.requires.2 (two_none (start.requires.0, start.requires.1)))
-    (entries-members start.args.others.now _) measured.span-shared.ensures c.before.if1.true c.refuse.ensures)
-    (λ c κs. reached-below _ _ _ (rw c.before.before.span-shared.ensures at c.before.if1.false))
+    (λ c. flipped-beyond _ (short_none c.args.indices.now _ c.requires.2 (two_none (c.requires.0, c.requires.1)))
+    (entries-members c.args.others.now _) c.span_shared-span.ensures c.if-words-span.true c.refuse.ensures)
+    (λ c κs. reached-below _ _ _ (rw c.span_shared-span.ensures at c.if-words-span.false))
     (λ c κs. search rules) (λ c. search rules)
-    (λ c. let test = c.before.before.before.before.before in
-    let start = test.before.before.before.before.before in
-    flipped-left _ _ (short_none start.args.indices.now _ start.requires.2 (two_none (start.requires.0, start.requires.1)))
-    (entries-members start.args.others.now _) test.before.span-shared.ensures test.if1.false
-    c.before.before.before.flip-shared.ensures (λ k. (c.before.slice-known2.given k).fits) c.serve.ensures))
+    (λ c. flipped-left _ _ (short_none c.args.indices.now _ c.requires.2 (two_none (c.requires.0, c.requires.1)))
+    (entries-members c.args.others.now _) c.span_shared-span.ensures c.if-words-span.false
+    c.flip_shared.ensures (λ k. (c.slice_known-2-1.given k).fits) c.serve.ensures))

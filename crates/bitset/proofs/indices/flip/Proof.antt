@@ -17,10 +17,8 @@ flip_spec = tie.close (tie.spec
     (λ words₀ indices i₀ words i. length indices - i)
     (λ c. refl)
     (λ c. search rules) (λ c. search rules)
-    (λ c κs. let t = c.before.before in
-    omega (arith, below_at _ _ _ t.before.before.before.before.requires t.loop-test.true, simp length-flips at (ap length t.before.loop.invariant)))
+    (λ c κs. omega (arith, below_at _ _ _ c.requires c.loop-i-test.true, simp length-flips at (ap length c.loop-i.invariant)))
     (λ c. search rules) (λ c. search rules)
-    (λ c. let f = c.before.before in let t = f.before.before.before in
-    rw f.flip-at.ensures.0 (flips-next _ _ _ _ t.before.loop.invariant t.loop-test.true))
-    (λ c. simp length-flips at (ap length c.before.loop.invariant))
-    (λ c. flips_end _ _ _ _ c.before.loop.invariant c.loop-test.false))
+    (λ c. rw c.flip_at.ensures.0 (flips-next _ _ _ _ c.loop-i.invariant c.loop-i-test.true))
+    (λ c. simp length-flips at (ap length c.loop-i.invariant))
+    (λ c. flips_end _ _ _ _ c.loop-i.invariant c.loop-i-test.false))

@@ -16,5 +16,5 @@ span_spec = tie.close (tie.spec
     (λ c. refl)
     (λ c. search rules) (λ c. search rules) (λ c κs. search rules)
     (λ c. search rules) (λ c. search rules)
-    (λ c. let t = c.before.before in rw c.farther.ensures (rw (drop-next _ _ t.loop-test.true) at t.before.loop.invariant))
-    (λ c. rw (drop_of_length-le _ c.loop-test.false) at c.before.loop.invariant))
+    (λ c. rw c.farther-reach.ensures (rw (drop-next _ _ c.loop-i-test.true) at c.loop-i.invariant))
+    (λ c. rw (drop_of_length-le _ c.loop-i-test.false) at c.loop-i.invariant))

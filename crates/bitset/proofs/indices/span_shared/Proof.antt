@@ -1,13 +1,13 @@
 -- `bitset::indices::span_shared` meets its contract.
 use borrow.Author.Rules.{rules}
 use mathlib.Core.Path.{◌≡◌, refl}
-use mathlib.Core.Logic.{⊎_elim}
 use Prim.Native.Nat.{◌-◌}
 use lib.ListN.{length, drop, drop_of_length-le}
 use Rattle.words.specs.Words.{at}
 use Rattle.bitset.specs.Rules.{entries}
 use Rattle.bitset.specs.Steps.{reached}
 use Rattle.bitset.proofs.IndexLaws.{drop-next}
+use Rattle.bitset.proofs.indices.span_shared.Lts.{then-contains, else-contains}
 use Rattle.bitset.proofs.indices.span_shared.Statement.{statement}
 use Rattle.bitset.proofs.indices.span_shared.Tie as tie
 
@@ -20,7 +20,6 @@ span_shared_spec = tie.close (tie.spec
     (λ c. search rules) (λ c. search rules) (λ c κs. search rules)
     (λ c. search rules) (λ c. search rules) (λ c κs. search rules)
     (λ c. search rules) (λ c. search rules)
-    (λ c. let t = c.before.before.before in
-    let inv = rw (drop-next _ _ t.loop-test.true, ← c.before.contains.ensures) at t.before.loop.invariant in
-    ⊎_elim (λ w. rw (w.3, w.2.ensures) (rw w.0.taken at inv)) (λ w. rw w.1 (rw w.0.left at inv)) c.if1.branch)
-    (λ c. rw (drop_of_length-le _ c.loop-test.false) at c.before.loop.invariant))
+    (λ c. let inv = rw (drop-next _ _ c.loop-i-test.true, ← c.contains.ensures) at c.loop-i.invariant in
+    elim c.if-contains.branch [ then-contains w ↦ rw (w.reach-is, w.farther-reach.ensures) (rw w.if-contains.true at inv) | else-contains w ↦ rw w.reach-is (rw w.if-contains.false at inv) ])
+    (λ c. rw (drop_of_length-le _ c.loop-i-test.false) at c.loop-i.invariant))

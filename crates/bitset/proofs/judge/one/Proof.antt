@@ -9,8 +9,8 @@ use Rattle.bitset.proofs.judge.one.Tie as tie
 pub one_spec : {M : Type 1} → statement M
 unfolding verdict ranged sounded judged in_range sound bytes_of
 one_spec = tie.close (tie.spec
-    (λ c. rw (lt-leb _ _ c.if1.true))
-    (λ c. rw (le-leb _ _ c.before.if1.false, lt-leb _ _ c.if2.true))
+    (λ c. rw (lt-leb _ _ c.if-words-gt-WORDS.true))
+    (λ c. rw (le-leb _ _ c.if-words-gt-WORDS.false, lt-leb _ _ c.if-words-span.true))
     (λ c κs. search rules)
-    (λ c. let z = c.before in rw (le-leb _ _ z.before.before.if1.false, le-leb _ _ z.before.if2.false, ← z.zero-from.ensures, c.if3.true))
-    (λ c. let z = c.before in rw (le-leb _ _ z.before.before.if1.false, le-leb _ _ z.before.if2.false, ← z.zero-from.ensures, c.if3.false)))
+    (λ c. rw (le-leb _ _ c.if-words-gt-WORDS.false, le-leb _ _ c.if-words-span.false, ← c.zero_from.ensures, c.if-zero_from.true))
+    (λ c. rw (le-leb _ _ c.if-words-gt-WORDS.false, le-leb _ _ c.if-words-span.false, ← c.zero_from.ensures, c.if-zero_from.false)))

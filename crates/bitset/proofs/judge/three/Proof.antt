@@ -7,4 +7,4 @@ use Rattle.bitset.proofs.judge.three.Tie as tie
 
 pub three_spec : {M : Type 1} → statement M
 three_spec = tie.close (tie.spec (λ c κs. search rules) (λ c κs. search rules) (λ c κs. search rules)
-    (λ c. rw (c.earlier.ensures, c.before.before.one.ensures, c.before.two.ensures) (sym (verdict_more _ _))))
+    (λ c. rw (c.earlier.ensures, c.one.ensures, c.two.ensures) (sym (verdict_more _ _))))

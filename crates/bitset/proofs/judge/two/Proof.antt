@@ -7,4 +7,4 @@ use Rattle.bitset.proofs.judge.two.Tie as tie
 
 pub two_spec : {M : Type 1} → statement M
 two_spec = tie.close (tie.spec (λ c κs. search rules) (λ c κs. search rules) (λ c κs. search rules)
-    (λ c. rw (c.earlier.ensures, c.before.before.one.ensures, c.before.one2.ensures) (sym (verdict_more _ _))))
+    (λ c. rw (c.earlier.ensures, c.one.ensures, c.one-2.ensures) (sym (verdict_more _ _))))
