@@ -14,7 +14,15 @@ one_spec = tie.close (tie.spec
     (λ c. rw (lt-leb _ _ c.if-words-gt-WORDS.true))
     (λ c. rw (le-leb _ _ c.if-words-gt-WORDS.false, lt-leb c.args.set.span (length c.args.words.now) (omega arith)))
     (λ c κs. search rules)
-    (λ c. rw (le-leb _ _ c.if-words-gt-WORDS.false, le-leb c.args.set.span (length c.args.words.now) (omega arith), ← c.zero_from.ensures,
-    c.if-zero_from.true))
-    (λ c. rw (le-leb _ _ c.if-words-gt-WORDS.false, le-leb c.args.set.span (length c.args.words.now) (omega arith), ← c.zero_from.ensures,
-    c.if-zero_from.false)))
+    (λ c. rw (
+      le-leb _ _ c.if-words-gt-WORDS.false,
+      le-leb c.args.set.span (length c.args.words.now) (omega arith),
+      ← c.zero_from.ensures,
+      c.if-zero_from.true,
+    ))
+    (λ c. rw (
+      le-leb _ _ c.if-words-gt-WORDS.false,
+      le-leb c.args.set.span (length c.args.words.now) (omega arith),
+      ← c.zero_from.ensures,
+      c.if-zero_from.false,
+    )))
