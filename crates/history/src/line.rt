@@ -1,12 +1,12 @@
 // A line of a history: thirty lowercase hexadecimal digits and a newline.
-ghost use Rattle.std.specs.Prelude.{◌≡◌, ◌+◌, ◌/◌, ◌%◌, ◌^◌, ◌<◌, ◌≤◌, length};
+ghost use Rattle.std.specs.Prelude.{◌≡◌, ◌+◌, ◌/◌, ◌%◌, ◌^◌, ◌<◌, ◌≤◌, length, IfOk};
 ghost use Rattle.history.specs.Lines.{digit, field, line_of, following, lower, upper};
 
-use libc::STDIN_FILENO;
-use std::num::wrapping_add_usize;
+use std::io;
+use std::io::Read;
 
 // It isn't whole where the input has ended.
-#[derive(Drop)]
+#[derive(Clone, Copy)]
 pub struct Line {
     pub whole: bool,
     pub operation: usize,
@@ -17,6 +17,7 @@ pub struct Line {
     pub number: usize,
 }
 
+#[tactic(auto, unfolding(crate::specs::Lines::digit))]
 fn digit(byte: u8) -> usize
     ensures value { result ≡ digit byte }
     ensures upper_bound { result < 16 }
@@ -41,6 +42,7 @@ fn field(text: &[u8], from: usize, to: usize) -> usize
 }
 
 // What a line says.
+#[tactic(auto, unfolding(crate::specs::Lines::line_of))]
 pub fn parse(text: &[u8]) -> Line
     ensures { result ≡ line_of text.now }
 {
@@ -66,11 +68,26 @@ pub fn parse(text: &[u8]) -> Line
     }
 }
 
-// The next line of standard input.
-pub fn next() -> Line {
+// Reads until the text is full or the input ends, and returns how many bytes stand at the text's start.
+fn read_full(input: &mut impl Read, text: &mut [u8]) -> io::Result<usize>
+    ensures { IfOk result (λ got. got ≤ length text.new) }
+{
+    let mut got = 0;
+    while got < text.len() {
+        let more = input.read(&mut text[got..])?;
+        if more == 0 {
+            break;
+        }
+        got += more;
+    }
+    Ok(got)
+}
+
+// The next line of the input.
+pub fn next(input: &mut impl Read) -> io::Result<Line> {
     let mut text = [0u8; 31];
-    let got = io::read_full(STDIN_FILENO, &mut text);
-    parse(&text[..got])
+    let got = read_full(input, &mut text)?;
+    Ok(parse(&text[..got]))
 }
 
 impl Line {
@@ -92,17 +109,19 @@ impl Line {
     pub fn following(mut self) -> Line
         ensures { result ≡ following self }
     {
-        self.number = wrapping_add_usize(self.number, 1);
+        self.number = self.number.wrapping_add(1);
         self
     }
 
     // The lower and the higher of the two sets that the call isn't made on.
+    #[tactic(auto, unfolding(crate::specs::Lines::lower))]
     pub fn lower(self) -> usize
         ensures { result ≡ lower self.set }
     {
         if self.set == 0 { 1 } else { 0 }
     }
 
+    #[tactic(auto, unfolding(crate::specs::Lines::upper))]
     pub fn upper(self) -> usize
         ensures { result ≡ upper self.set }
     {
