@@ -3,81 +3,84 @@
 
 ghost use Rattle.std.specs.Prelude.{◌≡◌, ◌≤◌, length};
 
+use std::io;
+use std::io::{BufWriter, Write};
 use words::{keys, row, word, write};
 
-fn text(bytes: &[u8]) {
-    io::write_all(1, bytes);
+fn text(out: &mut impl Write, bytes: &[u8]) -> io::Result<()> {
+    out.write_all(bytes)
 }
 
-fn number(n: usize) {
-    io::print_decimal(1, n as u64);
+fn number(out: &mut impl Write, n: usize) -> io::Result<()> {
+    write!(out, "{n}")
 }
 
-fn answer(was: bool) {
+fn answer(out: &mut impl Write, was: bool) -> io::Result<()> {
     if was {
-        text(b"yes");
+        text(out, b"yes")
     } else {
-        text(b"no");
+        text(out, b"no")
     }
 }
 
 // Where an index lies.
-fn locate(index: usize) {
-    text(b"index ");
-    number(index);
-    text(b": word ");
-    number(word::place(index));
-    text(b", mask ");
-    io::print_hex(1, word::mask(index), 16);
-    text(b"\n");
+fn locate(out: &mut impl Write, index: usize) -> io::Result<()> {
+    text(out, b"index ")?;
+    number(out, index)?;
+    text(out, b": word ")?;
+    number(out, word::place(index))?;
+    text(out, b", mask ")?;
+    write!(out, "{:016x}", word::mask(index))?;
+    text(out, b"\n")
 }
 
-fn report(count: usize, span: usize) {
-    number(count);
-    text(b" members, exact span ");
-    number(span);
-    text(b"\n");
+fn report(out: &mut impl Write, count: usize, span: usize) -> io::Result<()> {
+    number(out, count)?;
+    text(out, b" members, exact span ")?;
+    number(out, span)?;
+    text(out, b"\n")
 }
 
 // What a row holds.
-fn measure(words: &[u64])
+fn measure(out: &mut impl Write, words: &[u64]) -> io::Result<()>
     requires { length words.now ≤ 8192 }
 {
-    report(row::count_all(words), row::exact_span(words));
+    report(out, row::count_all(words), row::exact_span(words))
 }
 
 // Flips an index of 79 words, and says what was there.
-fn flip(words: &mut [u64], index: usize)
+fn flip(out: &mut impl Write, words: &mut [u64], index: usize) -> io::Result<()>
     requires { length words.old ≡ 79 }
 {
     if index < 5056 {
-        text(b"flip ");
-        number(index);
-        text(b": was there: ");
-        answer(write::flip_at(words, index));
-        text(b"; now ");
-        measure(words);
+        text(out, b"flip ")?;
+        number(out, index)?;
+        text(out, b": was there: ")?;
+        answer(out, write::flip_at(words, index))?;
+        text(out, b"; now ")?;
+        measure(out, words)?;
     }
+    Ok(())
 }
 
 // The first n keys, in order.
-fn list(keys: &[u32], n: usize) {
-    text(b"as keys:");
+fn list(out: &mut impl Write, keys: &[u32], n: usize) -> io::Result<()> {
+    text(out, b"as keys:")?;
     let mut i = 0;
     while i < n && i < keys.len() {
-        text(b" ");
-        number(keys[i] as usize);
+        text(out, b" ")?;
+        number(out, keys[i] as usize)?;
         i += 1;
     }
-    text(b"\n");
+    text(out, b"\n")
 }
 
-fn ask(words: &[u64], index: usize) {
-    text(b"contains ");
-    number(index);
-    text(b": ");
-    answer(row::contains(words, index));
-    text(b"\n");
+fn ask(out: &mut impl Write, words: &[u64], index: usize) -> io::Result<()> {
+    text(out, b"contains ")?;
+    number(out, index)?;
+    text(out, b": ")?;
+    answer(out, row::contains(words, index))?;
+    text(out, b"\n")
 }
 
 // {0..15} with 2048, in 79 words.
@@ -92,60 +95,62 @@ fn fill(words: &mut [u64])
     write::set_at(words, 2048);
 }
 
-fn compare(a: &[u64], b: &[u64])
+fn compare(out: &mut impl Write, a: &[u64], b: &[u64]) -> io::Result<()>
     requires { (length a.now ≡ 79) × (length b.now ≡ 79) }
 {
-    text(b"in common: ");
-    report(combined::and_count(a, b), combined::and_span(a, b));
-    text(b"their XOR: ");
-    report(combined::xor_count(a, b), combined::xor_span(a, b));
+    text(out, b"in common: ")?;
+    report(out, combined::and_count(a, b), combined::and_span(a, b))?;
+    text(out, b"their XOR: ")?;
+    report(out, combined::xor_count(a, b), combined::xor_span(a, b))
 }
 
 // One row: {0..15} with 2048, asked and flipped.
-fn one(a: &mut [u64])
+fn one(out: &mut impl Write, a: &mut [u64]) -> io::Result<()>
     requires { length a.old ≡ 79 }
 {
     fill(a);
-    text(b"{0..15} with 2048: ");
-    measure(a);
-    ask(a, 15);
-    ask(a, 2047);
-    ask(a, 2048);
-    flip(a, 5000);
-    flip(a, 5000);
+    text(out, b"{0..15} with 2048: ")?;
+    measure(out, a)?;
+    ask(out, a, 15)?;
+    ask(out, a, 2047)?;
+    ask(out, a, 2048)?;
+    flip(out, a, 5000)?;
+    flip(out, a, 5000)
 }
 
 // Another beside it: {2047, 2048}, compared and XORed in.
-fn two(a: &mut [u64], b: &mut [u64])
+fn two(out: &mut impl Write, a: &mut [u64], b: &mut [u64]) -> io::Result<()>
     requires { (length a.old ≡ 79) × (length b.old ≡ 79) }
 {
-    flip(b, 2047);
-    flip(b, 2048);
-    compare(a, b);
+    flip(out, b, 2047)?;
+    flip(out, b, 2048)?;
+    compare(out, a, b)?;
     write::xor_in(a, b);
-    text(b"XORed in: ");
-    measure(a);
+    text(out, b"XORed in: ")?;
+    measure(out, a)
 }
 
 // A row as keys, and cleared.
-fn three(a: &mut [u64], keys: &mut [u32])
+fn three(out: &mut impl Write, a: &mut [u64], keys: &mut [u32]) -> io::Result<()>
     requires { (length a.old ≡ 79) × (length keys.old ≡ 5056) }
 {
     let n = keys::to_keys(a, keys);
-    list(keys, n);
+    list(out, keys, n)?;
     write::clear_all(a);
-    text(b"cleared: ");
-    measure(a);
+    text(out, b"cleared: ")?;
+    measure(out, a)
 }
 
-fn main() {
-    locate(2047);
-    locate(2048);
-    locate(5000);
+fn main(rt: HostRuntime) -> io::Result<()> {
+    let mut out = BufWriter::new(rt.alloc(), io::writer(&rt))?;
+    locate(&mut out, 2047)?;
+    locate(&mut out, 2048)?;
+    locate(&mut out, 5000)?;
     let mut a = [0u64; 79];
     let mut b = [0u64; 79];
     let mut keys = [0u32; 5056];
-    one(&mut a);
-    two(&mut a, &mut b);
-    three(&mut a, &mut keys);
+    one(&mut out, &mut a)?;
+    two(&mut out, &mut a, &mut b)?;
+    three(&mut out, &mut a, &mut keys)?;
+    out.flush()
 }
