@@ -4,27 +4,30 @@ use crate::calls::header;
 use answers::judge::earlier;
 use history::line::Line;
 use history::print::{end_line, print_answer, print_member, print_refusal};
+use std::io;
+use std::io::Write;
 use words::row::shorter;
 
 // The members, ascending, one to a line: the first `count` elements.
-fn print_members(elements: &[u64], count: usize) {
+fn print_members(out: &mut impl Write, elements: &[u64], count: usize) -> io::Result<()> {
     for place in 0..shorter(count, elements.len()) {
-        print_member(elements[place]);
+        print_member(out, elements[place])?;
     }
+    Ok(())
 }
 
 // The value and the count; before those of a dump, the members.
-pub fn print(line: Line, state: State, elements: &[u64]) {
+pub fn print(out: &mut impl Write, line: Line, state: State, elements: &[u64]) -> io::Result<()> {
     let set = header(state, line.set);
     if line.operation == 0x0e {
-        print_members(elements, set.count);
+        print_members(out, elements, set.count)?;
     }
     let count = set.len(elements);
     let number = earlier(state.number, count.number);
     if number != answers::SERVED {
-        print_refusal(number);
+        print_refusal(out, number)?;
     } else {
-        print_answer(state.value, count.value);
+        print_answer(out, state.value, count.value)?;
     }
-    end_line();
+    end_line(out)
 }

@@ -5,7 +5,6 @@ use answers::give::refusal;
 use history::UNKNOWN;
 use history::line::Line;
 use sorted_vec_set::{Reply, SortedVecSet};
-use std::num::wrapping_add_u64;
 use words::row::shorter;
 
 // A set above 2, which no history names, counts as 2.
@@ -78,7 +77,7 @@ fn after(mut state: State, answer: Answer) -> State {
     if answer.number != answers::SERVED {
         state.number = answer.number;
     }
-    state.value = wrapping_add_u64(state.value, answer.value);
+    state.value = state.value.wrapping_add(answer.value);
     state
 }
 

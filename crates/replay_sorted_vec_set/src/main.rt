@@ -12,11 +12,13 @@ ghost use Rattle.std.specs.Prelude.{◌≤◌, length};
 use history::line;
 use history::line::Line;
 use sorted_vec_set::SortedVecSet;
+use std::io;
+use std::io::{BufReader, BufWriter, Write};
 use words::row::shorter;
 
 // The sets, and how many elements of its buffer each is lent; the sum of the values that the calls of the line under way
 // have answered, and the number of one that was refused.
-#[derive(Drop)]
+#[derive(Clone, Copy)]
 pub struct State {
     pub sets: [SortedVecSet; 3],
     pub lent: [usize; 3],
@@ -45,36 +47,39 @@ fn begin(line: Line, mut state: State) -> State {
 
 // Makes a line's calls, each on the number after the one before, and prints their answer.
 fn repeat(
+    out: &mut impl Write,
     mut line: Line,
     mut state: State,
     elements: &mut [u64],
     first: &mut [u64],
     second: &mut [u64],
-) -> State {
+) -> io::Result<State> {
     let mut left = line.times;
     while left > 0 {
         state = calls::make(line, state, elements, first, second);
         line = line.following();
         left -= 1;
     }
-    answer::print(line, state, elements);
-    state
+    answer::print(out, line, state, elements)?;
+    Ok(state)
 }
 
 // Answers a line on its target's buffer and those of the two other sets, the lower one first.
 fn play(
+    out: &mut impl Write,
     line: Line,
     state: State,
     elements: &mut [u64],
     first: &mut [u64],
     second: &mut [u64],
-) -> State {
+) -> io::Result<State> {
     let state = begin(line, state);
     let start = 0;
     let end = lent(state, line.set, elements);
     let first_end = lent(state, line.lower(), first);
     let second_end = lent(state, line.upper(), second);
     repeat(
+        out,
         line,
         state,
         &mut elements[start..end],
@@ -85,22 +90,26 @@ fn play(
 
 // Tells the target's buffer from the two others.
 fn turn(
+    out: &mut impl Write,
     line: Line,
     state: State,
     elements0: &mut [u64; 8192],
     elements1: &mut [u64; 8192],
     elements2: &mut [u64; 8192],
-) -> State {
+) -> io::Result<State> {
     let set = line.set;
     match set {
-        0 => play(line, state, elements0, elements1, elements2),
-        1 => play(line, state, elements1, elements0, elements2),
-        _ => play(line, state, elements2, elements0, elements1),
+        0 => play(out, line, state, elements0, elements1, elements2),
+        1 => play(out, line, state, elements1, elements0, elements2),
+        _ => play(out, line, state, elements2, elements0, elements1),
     }
 }
 
 // A proved loop has to end, and nothing says that the input does: no run uses up so many turns.
-fn main() {
+fn main(rt: HostRuntime) -> io::Result<()> {
+    let alloc = rt.alloc();
+    let mut input = BufReader::new(alloc, rt.reader())?;
+    let mut out = BufWriter::new(alloc, io::writer(&rt))?;
     let mut elements0 = [0u64; 8192];
     let mut elements1 = [0u64; 8192];
     let mut elements2 = [0u64; 8192];
@@ -110,11 +119,19 @@ fn main() {
         value: 0,
         number: answers::SERVED,
     };
-    let mut line = line::next();
-    let mut turns = u64::MAX;
-    while turns > 0 && line.whole {
-        state = turn(line, state, &mut elements0, &mut elements1, &mut elements2);
-        line = line::next();
-        turns -= 1;
+    for _ in 0..u64::MAX {
+        let line = line::next(&mut input)?;
+        if !line.whole {
+            break;
+        }
+        state = turn(
+            &mut out,
+            line,
+            state,
+            &mut elements0,
+            &mut elements1,
+            &mut elements2,
+        )?;
     }
+    out.flush()
 }
