@@ -5,30 +5,33 @@ use answers::judge::earlier;
 use bitset::judge;
 use history::line::Line;
 use history::print::{end_line, print_answer, print_field, print_member, print_refusal};
+use std::io;
+use std::io::Write;
 use words::row::{contains, shorter};
 
 // The members, ascending, one to a line.
-fn print_members(words: &[u64]) {
+fn print_members(out: &mut impl Write, words: &[u64]) -> io::Result<()> {
     for index in 0..64 * shorter(words.len(), judge::WORDS) {
         if contains(words, index) {
-            print_member(index as u64);
+            print_member(out, index as u64)?;
         }
     }
+    Ok(())
 }
 
 // The value, the count and the span; before those of a dump, the members.
-pub fn print(line: Line, state: State, words: &[u64]) {
+pub fn print(out: &mut impl Write, line: Line, state: State, words: &[u64]) -> io::Result<()> {
     if line.operation == 0x0e {
-        print_members(words);
+        print_members(out, words)?;
     }
     let set = header(state, line.set);
     let count = set.len(words);
     let number = earlier(state.number, count.number);
     if number != answers::SERVED {
-        print_refusal(number);
+        print_refusal(out, number)?;
     } else {
-        print_answer(state.value, count.value);
-        print_field(set.span as u64, 4);
+        print_answer(out, state.value, count.value)?;
+        print_field(out, set.span as u64, 4)?;
     }
-    end_line();
+    end_line(out)
 }

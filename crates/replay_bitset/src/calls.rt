@@ -5,7 +5,6 @@ use answers::give::refusal;
 use bitset::{BitSet, Reply};
 use history::UNKNOWN;
 use history::line::Line;
-use std::num::wrapping_add_u64;
 use words::row::shorter;
 
 // A set above 2, which no history names, counts as 2.
@@ -89,7 +88,7 @@ fn after(line: Line, mut state: State, reply: Reply) -> State {
     if reply.answer.number != answers::SERVED {
         state.number = reply.answer.number;
     }
-    state.value = wrapping_add_u64(state.value, reply.answer.value);
+    state.value = state.value.wrapping_add(reply.answer.value);
     state
 }
 
