@@ -1,5 +1,6 @@
 // A line of a history: thirty lowercase hexadecimal digits and a newline.
-ghost use Rattle.std.specs.Prelude.{◌≡◌, ◌+◌, ◌/◌, ◌%◌, ◌^◌, ◌<◌, ◌≤◌, length, IfOk};
+ghost use Rattle.std.specs.Prelude.{◌≡◌, ◌+◌, ◌/◌, ◌%◌, ◌^◌, ◌<◌, ◌≤◌, length, take, drop, Some, IfSome, IfOk, OnOk};
+ghost use Rattle.std.specs.Io.KnownBytes.{Consumes, IsAtEnd};
 ghost use Rattle.history.specs.Lines.{digit, field, line_of, following, lower, upper};
 
 use std::io;
@@ -69,8 +70,10 @@ pub fn parse(text: &[u8]) -> Line
 }
 
 // Reads until the text is full or the input ends, and returns how many bytes stand at the text's start.
-fn read_full(input: &mut impl Read, text: &mut [u8]) -> io::Result<usize>
-    ensures { IfOk result (λ got. got ≤ length text.new) }
+fn read_full<R: Read>(input: &mut R, text: &mut [u8]) -> io::Result<usize>
+    ensures within { IfOk result (λ got. got ≤ length text.new) }
+    ensures bytes { IfOk result (λ got. Consumes (R.remaining input.old) (R.remaining input.new) (take got text.new)) }
+    ensures end { IfOk result (λ got. got < length text.new → IsAtEnd (R.remaining input.new)) }
 {
     let mut got = 0;
     while got < text.len() {
@@ -84,7 +87,10 @@ fn read_full(input: &mut impl Read, text: &mut [u8]) -> io::Result<usize>
 }
 
 // The next line of the input.
-pub fn next(input: &mut impl Read) -> io::Result<Line> {
+pub fn next<R: Read>(input: &mut R) -> io::Result<Line>
+    ensures line { IfOk result (λ line. IfSome (R.remaining input.old) (λ bytes. line ≡ line_of (take 31 bytes))) }
+    ensures rest { OnOk result (IfSome (R.remaining input.old) (λ bytes. R.remaining input.new ≡ Some (drop 31 bytes))) }
+{
     let mut text = [0u8; 31];
     let got = read_full(input, &mut text)?;
     Ok(parse(&text[..got]))
