@@ -86,7 +86,15 @@ fn play<'a>(
     let a_end = lent(state, line.a, a);
     let b_end = lent(state, line.b, b);
     let own = &mut words[start..end];
-    repeat(out, line, state, own, &a[start..a_end], &b[start..b_end], list)
+    repeat(
+        out,
+        line,
+        state,
+        own,
+        &a[start..a_end],
+        &b[start..b_end],
+        list,
+    )
 }
 
 // Tells the target's buffer from the two others.
