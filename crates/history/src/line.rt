@@ -1,6 +1,7 @@
 // A line of a history: thirty lowercase hexadecimal digits and a newline.
-ghost use Rattle.std.specs.Prelude.{◌≡◌, ◌+◌, ◌/◌, ◌%◌, ◌^◌, ◌<◌, ◌≤◌, length, take, drop, Some, IfSome, IfOk, OnOk};
+ghost use Rattle.std.specs.Prelude.{◌≡◌, ◌+◌, ◌/◌, ◌%◌, ◌^◌, ◌<◌, ◌≤◌, length, take, drop, Some, IfSome, IfOk, OnOk, OnErr};
 ghost use Rattle.std.specs.Io.KnownBytes.{Consumes, IsAtEnd};
+ghost use Rattle.history.specs.Reading.{LosesFewer};
 ghost use Rattle.history.specs.Lines.{digit, field, line_of, following, lower, upper};
 
 use std::io;
@@ -74,6 +75,7 @@ fn read_full<R: Read>(input: &mut R, text: &mut [u8]) -> io::Result<usize>
     ensures within { IfOk result (λ got. got ≤ length text.new) }
     ensures bytes { IfOk result (λ got. Consumes (R.remaining input.old) (R.remaining input.new) (take got text.new)) }
     ensures end { IfOk result (λ got. got < length text.new → IsAtEnd (R.remaining input.new)) }
+    ensures failed { OnErr result (LosesFewer (length text.new) (R.remaining input.old) (R.remaining input.new)) }
 {
     let mut got = 0;
     while got < text.len() {
@@ -90,6 +92,7 @@ fn read_full<R: Read>(input: &mut R, text: &mut [u8]) -> io::Result<usize>
 pub fn next<R: Read>(input: &mut R) -> io::Result<Line>
     ensures line { IfOk result (λ line. IfSome (R.remaining input.old) (λ bytes. line ≡ line_of (take 31 bytes))) }
     ensures rest { OnOk result (IfSome (R.remaining input.old) (λ bytes. R.remaining input.new ≡ Some (drop 31 bytes))) }
+    ensures failed { OnErr result (LosesFewer 31 (R.remaining input.old) (R.remaining input.new)) }
 {
     let mut text = [0u8; 31];
     let got = read_full(input, &mut text)?;
