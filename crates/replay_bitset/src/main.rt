@@ -145,6 +145,8 @@ fn main(rt: HostRuntime) -> io::Result<()> {
             &mut words2,
             &mut list,
         )?;
+        // The answer to a line is there before the next line is read.
+        out.flush()?;
     }
-    out.flush()
+    Ok(())
 }

@@ -132,6 +132,8 @@ fn main(rt: HostRuntime) -> io::Result<()> {
             &mut elements1,
             &mut elements2,
         )?;
+        // The answer to a line is there before the next line is read.
+        out.flush()?;
     }
-    out.flush()
+    Ok(())
 }
