@@ -1,4 +1,8 @@
 // The calls that a line names by its operation's code.
+ghost use Rattle.std.specs.Prelude.{[], ◌≡◌};
+ghost use Rattle.bitset.specs.Calls.{left};
+ghost use Rattle.replay_bitset.specs.Replay.{header_of, asked, followed};
+
 use crate::State;
 use answers::Answer;
 use answers::give::refusal;
@@ -8,16 +12,21 @@ use history::line::Line;
 use words::row::shorter;
 
 // A set above 2, which no history names, counts as 2.
-pub fn header(state: State, set: usize) -> BitSet {
+pub fn header(state: State, set: usize) -> BitSet
+    ensures { result ≡ header_of state set }
+{
     let place = shorter(set, 2);
     state.sets[place]
 }
 
-fn read(answer: Answer, set: BitSet) -> Reply {
+fn read(answer: Answer, set: BitSet) -> Reply
+    ensures { result ≡ record { answer = answer; set = set } }
+{
     Reply { answer, set }
 }
 
 // The call itself. `a` and `b` are the operands' words; a read may have its target as the operand, too.
+#[tactic(auto, unfolding(crate::specs::Replay::asked, bitset::specs::Calls::left, bitset::specs::Calls::bytes_of))]
 fn serve(
     line: Line,
     state: State,
@@ -25,7 +34,9 @@ fn serve(
     a: &[u64],
     b: &[u64],
     list: &[usize],
-) -> Reply {
+) -> Reply
+    ensures { left result words.new ≡ asked line state words.old a.now b.now list.now }
+{
     let set = header(state, line.set);
     let first = header(state, line.a);
     let second = header(state, line.b);
@@ -78,7 +89,10 @@ fn push(line: Line, mut state: State, list: &mut [usize]) -> State {
 }
 
 // The state after any other call. The slice forms, with codes above 0x10, take the list.
-fn after(line: Line, mut state: State, reply: Reply) -> State {
+#[tactic(auto, unfolding(crate::specs::Replay::followed, bitset::specs::Calls::left))]
+fn after(line: Line, mut state: State, reply: Reply) -> State
+    ensures { result ≡ followed line state (left reply []) }
+{
     let place = shorter(line.set, 2);
     let set = reply.set;
     state.sets[place] = set;
