@@ -53,3 +53,11 @@ followed l s o =
       value = (s.value + o.answer.value) % 2 ^ 64;
       number = pick (eqb o.answer.number 0) s.number o.answer.number;
     }
+
+-- the state after a push: one entry more, or 1 as the number where the list has no room
+unfoldable pub pushed : State → ℕ → State
+pushed s room = pick (ltb s.entries room) (record s { entries = s.entries + 1 }) (record s { number = 1 })
+
+-- the list after a line's call: a push puts the line's number behind the entries, where there is room
+unfoldable pub listed : Line → State → List ℕ → List ℕ
+listed l s list = pick (eqb l.operation 0x10) (set list s.entries l.number) list

@@ -1,7 +1,7 @@
 // The calls that a line names by its operation's code.
-ghost use Rattle.std.specs.Prelude.{[], ◌≡◌};
+ghost use Rattle.std.specs.Prelude.{◌≡◌, ℕ, List, ◌≢◌, length, take, slice_set};
 ghost use Rattle.bitset.specs.Calls.{left};
-ghost use Rattle.replay_bitset.specs.Replay.{header_of, asked, followed};
+ghost use Rattle.replay_bitset.specs.Replay.{header_of, asked, followed, pushed, listed};
 
 use crate::State;
 use answers::Answer;
@@ -77,7 +77,11 @@ fn serve(
 }
 
 // Puts the line's number at the end of the list. A list longer than the port takes is refused.
-fn push(line: Line, mut state: State, list: &mut [usize]) -> State {
+#[tactic(auto, unfolding(crate::specs::Replay::pushed))]
+fn push(line: Line, mut state: State, list: &mut [usize]) -> State
+    ensures state { result ≡ pushed state (length list.old) }
+    ensures list { list.new ≡ slice_set list.old state.entries line.number }
+{
     let entries = state.entries;
     if list.len() <= entries {
         state.number = answers::LENGTH;
@@ -91,7 +95,7 @@ fn push(line: Line, mut state: State, list: &mut [usize]) -> State {
 // The state after any other call. The slice forms, with codes above 0x10, take the list.
 #[tactic(auto, unfolding(crate::specs::Replay::followed, bitset::specs::Calls::left))]
 fn after(line: Line, mut state: State, reply: Reply) -> State
-    ensures { result ≡ followed line state (left reply []) }
+    ensures { (words : List ℕ) → result ≡ followed line state (left reply words) }
 {
     let place = shorter(line.set, 2);
     let set = reply.set;
@@ -107,6 +111,7 @@ fn after(line: Line, mut state: State, reply: Reply) -> State
 }
 
 // One call, over words that are lent.
+#[tactic(auto, unfolding(crate::specs::Replay::listed))]
 pub fn make(
     line: Line,
     state: State,
@@ -114,7 +119,12 @@ pub fn make(
     a: &[u64],
     b: &[u64],
     list: &mut [usize],
-) -> State {
+) -> State
+    ensures pushed { line.operation ≡ 0x10 → result ≡ pushed state (length list.old) }
+    ensures called { line.operation ≢ 0x10 → result ≡ followed line state (asked line state words.old a.now b.now (take state.entries list.old)) }
+    ensures words { words.new ≡ (asked line state words.old a.now b.now (take state.entries list.old)).bytes.words }
+    ensures list { list.new ≡ listed line state list.old }
+{
     if line.operation == 0x10 {
         return push(line, state, list);
     }
