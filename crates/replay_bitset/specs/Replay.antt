@@ -1,8 +1,11 @@
 -- What a line of a history asks of the three sets, the state that its calls leave, and the bytes that answer it; oracle/README.md
 -- has the table of operations. Assumes nothing.
-use Rattle.std.specs.Prelude.{List, ℕ, ◌+◌, ◌%◌, ◌^◌, min, eqb, ltb, length, get_or, set, take}
+use Rattle.std.specs.Prelude.{List, [], ◌∷◌, ◌++◌, ℕ, ◌+◌, ◌%◌, ◌^◌, min, eqb, ltb, get_or, set, take, flat_map}
 use Rattle.words.specs.Sets.{pick}
+use Rattle.words.specs.Words.{members}
 use Rattle.answers.specs.declared.Answer.{Answer}
+use Rattle.answers.specs.Judging.{earlier}
+use Rattle.history.specs.Fields.{hexadecimal}
 use Rattle.history.specs.declared.line.Line.{Line}
 use Rattle.bitset.specs.declared.BitSet.{BitSet}
 use Rattle.bitset.specs.Calls.{Bytes, Outcome, bytes_of, preparing, inserting, removing, toggling, clearing, xoring, xoring_shared, xoring_unshared, flipping, flipping_shared, containing, counting, emptiness, counting_shared, counting_entries, comparing}
@@ -61,3 +64,30 @@ pushed s room = pick (ltb s.entries room) (record s { entries = s.entries + 1 })
 -- the list after a line's call: a push puts the line's number behind the entries, where there is room
 unfoldable pub listed : Line → State → List ℕ → List ℕ
 listed l s list = pick (eqb l.operation 0x10) (set list s.entries l.number) list
+
+-- ---- what is printed
+
+-- a member of a dump, on a line of its own
+abbrev pub member_line : ℕ → List ℕ
+member_line member = hexadecimal 16 member ++ 10 ∷ []
+
+-- before a dump's own line the members of its set, of which no set has any past 8,192 words
+unfoldable pub dumped : Line → List ℕ → List ℕ
+dumped l words = pick (eqb l.operation 0x0e) (flat_map member_line (members (take 8192 words))) []
+
+-- the value that the calls answered, and the set's count and span after them
+abbrev pub fields : State → BitSet → Answer → List ℕ
+fields s set count = hexadecimal 16 s.value ++ hexadecimal 6 count.value ++ hexadecimal 4 set.span
+
+-- the number alone where a call or the count was refused, else the fields
+unfoldable pub answer_of : State → BitSet → Answer → List ℕ
+answer_of s set count =
+    let number = earlier s.number count.number in
+    pick (eqb number 0) (fields s set count) (hexadecimal 2 number)
+
+-- the bytes that answer a line
+unfoldable pub printed : Line → State → List ℕ → List ℕ
+unfolding dumped answer_of
+printed l s words =
+    let own = header_of s l.set in
+    dumped l words ++ answer_of s own (counting (bytes_of own words)) ++ 10 ∷ []

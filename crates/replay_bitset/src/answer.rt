@@ -1,4 +1,9 @@
 // The answer to a line: what the calls answered, and the set's count and span after them.
+ghost use Rattle.std.specs.Prelude.{OnOk, flat_map, take};
+ghost use Rattle.std.specs.Io.KnownBytes.{Appends};
+ghost use Rattle.words.specs.Words.{members};
+ghost use Rattle.replay_bitset.specs.Replay.{member_line, printed};
+
 use crate::State;
 use crate::calls::header;
 use answers::judge::earlier;
@@ -10,7 +15,9 @@ use std::io::Write;
 use words::row::{contains, shorter};
 
 // The members, ascending, one to a line.
-fn print_members(out: &mut impl Write, words: &[u64]) -> io::Result<()> {
+fn print_members<W: Write>(out: &mut W, words: &[u64]) -> io::Result<()>
+    ensures { OnOk result (Appends (W.contents out.old) (W.contents out.new) (flat_map member_line (members (take 8192 words.now)))) }
+{
     for index in 0..64 * shorter(words.len(), judge::WORDS) {
         if contains(words, index) {
             print_member(out, index as u64)?;
@@ -20,7 +27,9 @@ fn print_members(out: &mut impl Write, words: &[u64]) -> io::Result<()> {
 }
 
 // The value, the count and the span; before those of a dump, the members.
-pub fn print(out: &mut impl Write, line: Line, state: State, words: &[u64]) -> io::Result<()> {
+pub fn print<W: Write>(out: &mut W, line: Line, state: State, words: &[u64]) -> io::Result<()>
+    ensures { OnOk result (Appends (W.contents out.old) (W.contents out.new) (printed line state words.now)) }
+{
     if line.operation == 0x0e {
         print_members(out, words)?;
     }

@@ -27,14 +27,7 @@ fn read(answer: Answer, set: BitSet) -> Reply
 
 // The call itself. `a` and `b` are the operands' words; a read may have its target as the operand, too.
 #[tactic(auto, unfolding(crate::specs::Replay::asked, bitset::specs::Calls::left, bitset::specs::Calls::bytes_of))]
-fn serve(
-    line: Line,
-    state: State,
-    words: &mut [u64],
-    a: &[u64],
-    b: &[u64],
-    list: &[usize],
-) -> Reply
+fn serve(line: Line, state: State, words: &mut [u64], a: &[u64], b: &[u64], list: &[usize]) -> Reply
     ensures { left result words.new ≡ asked line state words.old a.now b.now list.now }
 {
     let set = header(state, line.set);

@@ -1,7 +1,7 @@
-use Rattle.std.proofs.Common.{◌≡◌, ℕ, ◌-◌, min, List, length, take, ap, sym, ◌∙◌, arith}
+use Rattle.std.proofs.Common.{◌≡◌, ℕ, ◌-◌, min, List, length, take, ap, arith}
 use Rattle.std.proofs.lemmas.List.{take_min}
 use Rattle.bitset.specs.Calls.{Outcome, left, bytes_of}
-use Rattle.replay_bitset.specs.Replay.{asked, followed}
+use Rattle.replay_bitset.specs.Replay.{asked}
 use Rattle.replay_bitset.proofs.calls.make.Goals as goal
 
 -- the part of the list that a call is lent has the entries

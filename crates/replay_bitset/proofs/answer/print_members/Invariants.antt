@@ -1,0 +1,10 @@
+use Rattle.std.proofs.Common.{flat_map}
+use Rattle.std.specs.Io.KnownBytes.{Appends}
+use Rattle.replay_bitset.specs.Replay.{member_line}
+use Rattle.replay_bitset.proofs.PrintLaws.{present}
+use Rattle.replay_bitset.proofs.answer.print_members.Given as goal
+
+-- the members below the index have been printed
+abbrev pub invariant-loop-index : goal.invariant-loop-index
+invariant-loop-index g l =
+    Appends (g.W.Write.contents l.initial.out) (g.W.Write.contents l.out) (flat_map member_line (present l.words l.index))
