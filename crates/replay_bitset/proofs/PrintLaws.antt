@@ -50,7 +50,8 @@ members-present ws W =
     members_are (take W ws) (present ws (64 * min (length ws) W)) (ascending-present ws (64 * min (length ws) W))
     (λ i. go i (below_or_not (i / 64) (min (length ws) W)) ∙ sym (has-present ws (64 * min (length ws) W) i))
   where
-    go : (i : ℕ) → (i / 64 < min (length ws) W) ⊎ (min (length ws) W ≤ i / 64) → at (take W ws) i ≡ (ltb i (64 * min (length ws) W) && at ws i)
+    go : (i : ℕ) → (i / 64 < min (length ws) W) ⊎ (min (length ws) W ≤ i / 64)
+        → at (take W ws) i ≡ (ltb i (64 * min (length ws) W) && at ws i)
     go i (inl l) = rw (lt-ltb i (64 * min (length ws) W) (omega arith), get_or-take W ws (i / 64) 0 (omega arith))
     go i (inr l) =
         rw (le-ltb i (64 * min (length ws) W) (omega arith)) (at-past (take W ws) i (omega (arith, length-take W ws)))

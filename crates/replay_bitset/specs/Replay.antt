@@ -1,5 +1,5 @@
--- What a line of a history asks of the three sets, the state that its calls leave, and the bytes that answer it; oracle/README.md
--- has the table of operations. Assumes nothing.
+-- What a line of a history asks of the three sets, the state that its calls leave, and the bytes that answer it;
+-- oracle/README.md has the table of operations. Assumes nothing.
 use Rattle.std.specs.Prelude.{List, [], ◌∷◌, ◌++◌, ℕ, ◌+◌, ◌%◌, ◌^◌, min, eqb, ltb, get_or, set, take, flat_map}
 use Rattle.words.specs.Sets.{pick}
 use Rattle.words.specs.Words.{members}
@@ -20,7 +20,7 @@ abbrev pub reading : Answer → Bytes → Outcome
 reading answer b = record { answer = answer; bytes = b }
 
 -- the call that a line names by its operation's code, made on the words of its set and of its operands, and on the list; a
--- read may have its own set as the operand. What the set doesn't have is refused with 6
+-- read may have its own set as the operand. What a BitSet doesn't have, a push too, is refused with 6, `UNKNOWN`
 unfoldable pub asked : Line → State → List ℕ → List ℕ → List ℕ → List ℕ → Outcome
 asked l s words a b list =
     let own = bytes_of (header_of s l.set) words in
@@ -57,7 +57,7 @@ followed l s o =
       number = pick (eqb o.answer.number 0) s.number o.answer.number;
     }
 
--- the state after a push: one entry more, or 1 as the number where the list has no room
+-- the state after a push on a list with so much room: one entry more, or where it is full the number 1, `LENGTH`
 unfoldable pub pushed : State → ℕ → State
 pushed s room = pick (ltb s.entries room) (record s { entries = s.entries + 1 }) (record s { number = 1 })
 
@@ -71,9 +71,13 @@ listed l s list = pick (eqb l.operation 0x10) (set list s.entries l.number) list
 abbrev pub member_line : ℕ → List ℕ
 member_line member = hexadecimal 16 member ++ 10 ∷ []
 
--- before a dump's own line the members of its set, of which no set has any past 8,192 words
+-- the members of a set, ascending; no set is lent more than 8,192 words
+abbrev pub member_lines : List ℕ → List ℕ
+member_lines words = flat_map member_line (members (take 8192 words))
+
+-- what stands before the own line of a dump, and of no other operation
 unfoldable pub dumped : Line → List ℕ → List ℕ
-dumped l words = pick (eqb l.operation 0x0e) (flat_map member_line (members (take 8192 words))) []
+dumped l words = pick (eqb l.operation 0x0e) (member_lines words) []
 
 -- the value that the calls answered, and the set's count and span after them
 abbrev pub fields : State → BitSet → Answer → List ℕ
@@ -87,7 +91,6 @@ answer_of s set count =
 
 -- the bytes that answer a line
 unfoldable pub printed : Line → State → List ℕ → List ℕ
-unfolding dumped answer_of
 printed l s words =
     let own = header_of s l.set in
     dumped l words ++ answer_of s own (counting (bytes_of own words)) ++ 10 ∷ []

@@ -1,8 +1,7 @@
 // The answer to a line: what the calls answered, and the set's count and span after them.
-ghost use Rattle.std.specs.Prelude.{OnOk, flat_map, take};
+ghost use Rattle.std.specs.Prelude.{OnOk};
 ghost use Rattle.std.specs.Io.KnownBytes.{Appends};
-ghost use Rattle.words.specs.Words.{members};
-ghost use Rattle.replay_bitset.specs.Replay.{member_line, printed};
+ghost use Rattle.replay_bitset.specs.Replay.{member_lines, printed};
 
 use crate::State;
 use crate::calls::header;
@@ -16,7 +15,7 @@ use words::row::{contains, shorter};
 
 // The members, ascending, one to a line.
 fn print_members<W: Write>(out: &mut W, words: &[u64]) -> io::Result<()>
-    ensures { OnOk result (Appends (W.contents out.old) (W.contents out.new) (flat_map member_line (members (take 8192 words.now)))) }
+    ensures { OnOk result (Appends (W.contents out.old) (W.contents out.new) (member_lines words.now)) }
 {
     for index in 0..64 * shorter(words.len(), judge::WORDS) {
         if contains(words, index) {

@@ -114,7 +114,8 @@ pub fn make(
     list: &mut [usize],
 ) -> State
     ensures pushed { line.operation ≡ 0x10 → result ≡ pushed state (length list.old) }
-    ensures called { line.operation ≢ 0x10 → result ≡ followed line state (asked line state words.old a.now b.now (take state.entries list.old)) }
+    ensures called { line.operation ≢ 0x10
+        → result ≡ followed line state (asked line state words.old a.now b.now (take state.entries list.old)) }
     ensures words { words.new ≡ (asked line state words.old a.now b.now (take state.entries list.old)).bytes.words }
     ensures list { list.new ≡ listed line state list.old }
 {

@@ -10,21 +10,23 @@ pub returns : goal.returns
 unfolding printed dumped answer_of
 returns g c =
     let line = c.args.line in
-    let set = c.header-set.result in
-    let count = c.len-count.result in
-    let number = c.earlier-number.result in
-    let before : Appends (g.W.Write.contents c.args.out.now) (g.W.Write.contents c.if-line-eq14.out) (dumped line c.args.words.now) =
+    let first = g.W.Write.contents c.args.out.now in
+    let then = g.W.Write.contents c.if-line-eq14.out in
+    let last = g.W.Write.contents c.if-number-ne-SERVED.out in
+    let members : Appends first then (dumped line c.args.words.now) =
     elim c.if-line-eq14.branch [
       | then-line-eq14+in_ok-print_members w ↦ rw (w.out-is, w.if-line-eq14.true) w.in_ok-print_members.ensures
-      | else-line-eq14 w ↦ rw (w.out-is, ne_eqb line.operation 14 w.if-line-eq14.false) (Appends-nil (g.W.Write.contents c.args.out.now))
+      | else-line-eq14 w ↦ rw (w.out-is, ne_eqb line.operation 14 w.if-line-eq14.false) (Appends-nil first)
     ] in
-    let answer : Appends (g.W.Write.contents c.if-line-eq14.out) (g.W.Write.contents c.if-number-ne-SERVED.out) (answer_of c.args.state set count) =
+    let answer : Appends then last (answer_of c.args.state c.header-set.result c.len-count.result) =
     elim c.if-number-ne-SERVED.branch [
       | then-number-ne-SERVED+in_ok-print_refusal w ↦
-          rw (w.out-is, ← c.earlier-number.ensures, ne_eqb number 0 w.if-number-ne-SERVED.true) w.in_ok-print_refusal.ensures
+          let refused = ne_eqb c.earlier-number.result 0 w.if-number-ne-SERVED.true in
+          rw (w.out-is, ← c.earlier-number.ensures, refused) w.in_ok-print_refusal.ensures
       | else-number-ne-SERVED+in_ok-print_answer+in_ok-print_field w ↦
           rw (w.out-is, ← c.earlier-number.ensures, w.if-number-ne-SERVED.false)
           (Appends-trans _ _ _ _ _ w.in_ok-print_answer.ensures w.in_ok-print_field.ensures)
     ] in
+    let both = Appends-trans _ _ _ _ _ members answer in
     rw (← c.header-set.ensures, ← c.len-count.ensures)
-    (on_ok_weaker c.end_line.result (λ end. Appends-trans _ _ _ _ _ (Appends-trans _ _ _ _ _ before answer) end) c.end_line.ensures)
+    (on_ok_weaker c.end_line.result (λ end. Appends-trans _ _ _ _ _ both end) c.end_line.ensures)

@@ -16,9 +16,11 @@ loop-index-preserved g c =
       | then-contains+in_ok-print_member w ↦
           rw (w.out-is, lines_more words index (sym c.contains.ensures ∙ w.if-contains.true))
           (Appends-trans _ _ _ _ _ c.loop-index.invariant w.in_ok-print_member.ensures)
-      | else-contains w ↦ rw (w.out-is, lines_same words index (sym c.contains.ensures ∙ w.if-contains.false)) c.loop-index.invariant
+      | else-contains w ↦
+          rw (w.out-is, lines_same words index (sym c.contains.ensures ∙ w.if-contains.false)) c.loop-index.invariant
     ]
 
+-- the loop has gone over all indices of the words
 pub returns : goal.returns
 returns g c =
     let end : c.loop-index.index ≡ 64 * min (length c.args.words.now) 8192 = omega arith in
