@@ -1,4 +1,7 @@
 // The calls that a line names by its operation's code.
+ghost use Rattle.std.specs.Prelude.{◌≡◌};
+ghost use Rattle.replay_sorted_vec_set.specs.Replay.{header_of};
+
 use crate::State;
 use answers::Answer;
 use answers::give::refusal;
@@ -8,7 +11,10 @@ use sorted_vec_set::{Reply, SortedVecSet};
 use words::row::shorter;
 
 // A set above 2, which no history names, counts as 2.
-pub fn header(state: State, set: usize) -> SortedVecSet {
+#[tactic(auto, unfolding(crate::specs::Replay::header_of))]
+pub fn header(state: State, set: usize) -> SortedVecSet
+    ensures { result ≡ header_of state set }
+{
     let place = shorter(set, 2);
     state.sets[place]
 }
