@@ -1,8 +1,91 @@
--- What a line of a history asks for, what its call leaves, and what is printed after it. Assumes nothing.
-use Rattle.std.specs.Prelude.{ℕ, min, get_or}
+-- What a line of a history asks for, what its call leaves, and what is printed after it; oracle/README.md has the table of
+-- operations. Assumes nothing.
+use Rattle.std.specs.Prelude.{ℕ, ◌+◌, ◌%◌, ◌^◌, min, List, get_or, set, ◌==◌, if◌then◌else◌}
+use Rattle.answers.specs.declared.Answer.{Answer}
+use Rattle.history.specs.declared.line.Line.{Line}
+use Rattle.history.specs.Lines.{lower}
 use Rattle.sorted_vec_set.specs.declared.SortedVecSet.{SortedVecSet}
+use Rattle.sorted_vec_set.specs.Calls.{Bytes, Outcome, Handed, refused, bytes_of, preparing, inserting, removing, toggling, clearing, singling, xoring, xoring_shared, xoring_unshared, containing, counting, emptiness, counting_shared, comparing, taking}
 use Rattle.replay_sorted_vec_set.specs.declared.State.{State}
 
 -- the header of a set; one above 2 counts as 2
 unfoldable pub header_of : State → ℕ → SortedVecSet
 header_of s set = get_or s.sets (min set 2) (record { count = 0 })
+
+-- what a read leaves: its answer, and the bytes as they were
+abbrev pub reading : Answer → Bytes → Outcome
+reading answer b = record { answer = answer; bytes = b }
+
+-- what the call that a line names leaves, of those that write one set at most: of the set over these elements, and of the
+-- operands over a and b; a read of two sets may be of one set twice
+unfoldable pub asked : Line → State → List ℕ → List ℕ → List ℕ → Outcome
+asked line s elements a b =
+    let target = bytes_of (header_of s line.set) elements in
+    let first = bytes_of (header_of s line.a) a in
+    let second = bytes_of (header_of s line.b) b in
+    let operand = if line.a == line.set then target else first in
+    let code = line.operation in
+    if code == 0x00 then preparing elements
+    else if code == 0x01 then inserting line.number target
+    else if code == 0x02 then removing line.number target
+    else if code == 0x03 then toggling line.number target
+    else if code == 0x04 then reading (containing line.number target) target
+    else if code == 0x05 then reading (counting target) target
+    else if code == 0x06 then clearing target
+    else if code == 0x07 then xoring target first
+    else if code == 0x08 then reading (counting_shared target operand) target
+    else if code == 0x09 then xoring_shared target first second
+    else if code == 0x0a then xoring_unshared target first second
+    else if code == 0x0c then reading (emptiness target) target
+    else if code == 0x0d then reading (comparing target operand) target
+    else if code == 0x0e then reading (counting target) target
+    else if code == 0x15 then singling line.number target
+    else refused 6 target
+
+-- of the elements of the two other sets, the lower set's first, those of one of them
+unfoldable pub operand_elements : Line → ℕ → List ℕ → List ℕ → List ℕ
+operand_elements line set first second = if set == lower line.set then first else second
+
+-- what handing the set's elements over to the set a leaves, which is over these others
+unfoldable pub handing : Line → State → List ℕ → List ℕ → Handed
+handing line s elements others = taking (bytes_of (header_of s line.set) elements) (bytes_of (header_of s line.a) others)
+
+-- the state with another header for a set
+unfoldable pub with_header : State → ℕ → SortedVecSet → State
+with_header s place header = record s { sets = set s.sets (min place 2) header }
+
+-- the state after an answer: its value is added, and its number kept where it refuses
+unfoldable pub with_answer : State → Answer → State
+with_answer s answer =
+    record s {
+      value = (s.value + answer.value) % 2 ^ 64;
+      number = if answer.number == 0 then s.number else answer.number;
+    }
+
+-- the state after a call that left an outcome of a line's set
+unfoldable pub followed : Line → State → Outcome → State
+followed line s o = with_answer (with_header s line.set (record { count = o.bytes.count })) o.answer
+
+-- the state after the set's elements were handed over to the set a
+unfoldable pub followed_handing : Line → State → Handed → State
+followed_handing line s h =
+    let cleared = with_header s line.set (record { count = h.from.count }) in
+    with_answer (with_header cleared line.a (record { count = h.to.count })) h.answer
+
+-- what a line's call leaves: the state, and the elements of its set and of the two others, the lower set's first
+pub record Left : Type 0 where
+  pub state : State
+  pub elements : List ℕ
+  pub first : List ℕ
+  pub second : List ℕ
+
+unfoldable pub made : Line → State → List ℕ → List ℕ → List ℕ → Left
+made line s elements first second =
+    let o = asked line s elements (operand_elements line line.a first second) (operand_elements line line.b first second) in
+    let to_first = handing line s elements first in
+    let to_second = handing line s elements second in
+    if line.operation == 0x14
+    then (if line.a == lower line.set
+      then record { state = followed_handing line s to_first; elements = to_first.from.elements; first = to_first.to.elements; second = second }
+      else record { state = followed_handing line s to_second; elements = to_second.from.elements; first = first; second = to_second.to.elements })
+    else record { state = followed line s o; elements = o.bytes.elements; first = first; second = second }

@@ -1,6 +1,7 @@
 // The calls that a line names by its operation's code.
 ghost use Rattle.std.specs.Prelude.{◌≡◌};
-ghost use Rattle.replay_sorted_vec_set.specs.Replay.{header_of};
+ghost use Rattle.sorted_vec_set.specs.Calls.{left, bytes_of};
+ghost use Rattle.replay_sorted_vec_set.specs.Replay.{header_of, asked, operand_elements, with_answer, with_header, handing, followed_handing, made};
 
 use crate::State;
 use answers::Answer;
@@ -19,13 +20,18 @@ pub fn header(state: State, set: usize) -> SortedVecSet
     state.sets[place]
 }
 
-fn read(answer: Answer, set: SortedVecSet) -> Reply {
+fn read(answer: Answer, set: SortedVecSet) -> Reply
+    ensures { result ≡ record { answer = answer; set = set } }
+{
     Reply { answer, set }
 }
 
 // The call itself, where it writes one set at most. `a` and `b` are the operands' elements; a read may have its target as
 // the operand, too.
-fn serve(line: Line, state: State, elements: &mut [u64], a: &[u64], b: &[u64]) -> Reply {
+#[tactic(auto, unfolding(crate::specs::Replay::asked, sorted_vec_set::specs::Calls::left, sorted_vec_set::specs::Calls::bytes_of, sorted_vec_set::specs::Calls::refused))]
+fn serve(line: Line, state: State, elements: &mut [u64], a: &[u64], b: &[u64]) -> Reply
+    ensures { left result elements.new ≡ asked line state elements.old a.now b.now }
+{
     let set = header(state, line.set);
     let first = header(state, line.a);
     let second = header(state, line.b);
@@ -65,13 +71,16 @@ fn serve(line: Line, state: State, elements: &mut [u64], a: &[u64], b: &[u64]) -
 
 // Tells the operands' elements among those of the two other sets. Where an operand is the target, or a call has none,
 // nothing uses what is found.
+#[tactic(auto, unfolding(crate::specs::Replay::operand_elements))]
 fn serve_among<'a>(
     line: Line,
     state: State,
     elements: &mut [u64],
     first: &'a [u64],
     second: &'a [u64],
-) -> Reply {
+) -> Reply
+    ensures { left result elements.new ≡ asked line state elements.old (operand_elements line line.a first.now second.now) (operand_elements line line.b first.now second.now) }
+{
     let lower = line.lower();
     let a = if line.a == lower { first } else { second };
     let b = if line.b == lower { first } else { second };
@@ -79,7 +88,10 @@ fn serve_among<'a>(
 }
 
 // The state after an answer.
-fn after(mut state: State, answer: Answer) -> State {
+#[tactic(auto, unfolding(crate::specs::Replay::with_answer))]
+fn after(mut state: State, answer: Answer) -> State
+    ensures { result ≡ with_answer state answer }
+{
     if answer.number != answers::SERVED {
         state.number = answer.number;
     }
@@ -87,7 +99,10 @@ fn after(mut state: State, answer: Answer) -> State {
     state
 }
 
-fn put(mut state: State, set: usize, header: SortedVecSet) -> State {
+#[tactic(auto, unfolding(crate::specs::Replay::with_header))]
+fn put(mut state: State, set: usize, header: SortedVecSet) -> State
+    ensures { result ≡ with_header state set header }
+{
     let place = shorter(set, 2);
     state.sets[place] = header;
     state
