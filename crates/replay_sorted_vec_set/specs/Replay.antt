@@ -86,6 +86,6 @@ made line s elements first second =
     let to_second = handing line s elements second in
     if line.operation == 0x14
     then (if line.a == lower line.set
-      then record { state = followed_handing line s to_first; elements = to_first.from.elements; first = to_first.to.elements; second = second }
-      else record { state = followed_handing line s to_second; elements = to_second.from.elements; first = first; second = to_second.to.elements })
+    then record { state = followed_handing line s to_first; elements = to_first.from.elements; first = to_first.to.elements; second = second }
+    else record { state = followed_handing line s to_second; elements = to_second.from.elements; first = first; second = to_second.to.elements })
     else record { state = followed line s o; elements = o.bytes.elements; first = first; second = second }

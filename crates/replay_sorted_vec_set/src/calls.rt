@@ -109,7 +109,12 @@ fn put(mut state: State, set: usize, header: SortedVecSet) -> State
 }
 
 // Hands the target's elements over to another set, which is written, too.
-fn take(line: Line, state: State, elements: &mut [u64], others: &mut [u64]) -> State {
+#[tactic(auto, unfolding(crate::specs::Replay::handing, crate::specs::Replay::followed_handing, sorted_vec_set::specs::Calls::bytes_of, sorted_vec_set::specs::Calls::handed))]
+fn take(line: Line, state: State, elements: &mut [u64], others: &mut [u64]) -> State
+    ensures state { result ≡ followed_handing line state (handing line state elements.old others.old) }
+    ensures elements { elements.new ≡ (handing line state elements.old others.old).from.elements }
+    ensures others { others.new ≡ (handing line state elements.old others.old).to.elements }
+{
     let set = header(state, line.set);
     let other = header(state, line.a);
     let taken = set.take_clearing(elements, other, others);
@@ -119,13 +124,19 @@ fn take(line: Line, state: State, elements: &mut [u64], others: &mut [u64]) -> S
 }
 
 // One call, over elements that are lent.
+#[tactic(auto, unfolding(crate::specs::Replay::made, crate::specs::Replay::followed, sorted_vec_set::specs::Calls::left))]
 pub fn make(
     line: Line,
     state: State,
     elements: &mut [u64],
     first: &mut [u64],
     second: &mut [u64],
-) -> State {
+) -> State
+    ensures state { result ≡ (made line state elements.old first.old second.old).state }
+    ensures elements { elements.new ≡ (made line state elements.old first.old second.old).elements }
+    ensures first { first.new ≡ (made line state elements.old first.old second.old).first }
+    ensures second { second.new ≡ (made line state elements.old first.old second.old).second }
+{
     if line.operation == 0x14 {
         if line.a == line.lower() {
             return take(line, state, elements, first);
