@@ -1,11 +1,14 @@
 -- What a line of a history asks for, what its call leaves, and what is printed after it; oracle/README.md has the table of
 -- operations. Assumes nothing.
-use Rattle.std.specs.Prelude.{ℕ, ◌+◌, ◌%◌, ◌^◌, min, List, get_or, set, ◌==◌, if◌then◌else◌}
+use Rattle.std.specs.Prelude.{ℕ, ◌+◌, ◌%◌, ◌^◌, min, List, [], ◌∷◌, ◌++◌, get_or, set, ◌==◌, if◌then◌else◌}
+use Rattle.std.specs.List.{flat_map}
 use Rattle.answers.specs.declared.Answer.{Answer}
+use Rattle.answers.specs.Judging.{earlier}
+use Rattle.history.specs.Fields.{hexadecimal}
 use Rattle.history.specs.declared.line.Line.{Line}
 use Rattle.history.specs.Lines.{lower}
 use Rattle.sorted_vec_set.specs.declared.SortedVecSet.{SortedVecSet}
-use Rattle.sorted_vec_set.specs.Calls.{Bytes, Outcome, Handed, refused, bytes_of, preparing, inserting, removing, toggling, clearing, singling, xoring, xoring_shared, xoring_unshared, containing, counting, emptiness, counting_shared, comparing, taking}
+use Rattle.sorted_vec_set.specs.Calls.{Bytes, Outcome, Handed, members, refused, bytes_of, preparing, inserting, removing, toggling, clearing, singling, xoring, xoring_shared, xoring_unshared, containing, counting, emptiness, counting_shared, comparing, taking}
 use Rattle.replay_sorted_vec_set.specs.declared.State.{State}
 
 -- the header of a set; one above 2 counts as 2
@@ -89,3 +92,23 @@ made line s elements first second =
     then record { state = followed_handing line s to_first; elements = to_first.from.elements; first = to_first.to.elements; second = second }
     else record { state = followed_handing line s to_second; elements = to_second.from.elements; first = first; second = to_second.to.elements })
     else record { state = followed line s o; elements = o.bytes.elements; first = first; second = second }
+
+-- the line that a member of a dump is printed on
+abbrev pub member_line : ℕ → List ℕ
+member_line x = hexadecimal 16 x ++ 10 ∷ []
+
+-- the members that a line has printed before its answer, those of a dump alone
+unfoldable pub dump : Line → Bytes → List ℕ
+dump line b = if line.operation == 0x0e then flat_map member_line (members b) else []
+
+-- the fields of an answer: value and count, or the number alone where one refused
+unfoldable pub fields : State → Answer → List ℕ
+fields s count =
+    let number = earlier s.number count.number in
+    if number == 0 then hexadecimal 16 s.value ++ hexadecimal 6 count.value else hexadecimal 2 number
+
+-- what is printed after a line's calls, whose set is over these elements
+unfoldable pub printed : Line → State → List ℕ → List ℕ
+printed line s elements =
+    let b = bytes_of (header_of s line.set) elements in
+    dump line b ++ fields s (counting b) ++ 10 ∷ []

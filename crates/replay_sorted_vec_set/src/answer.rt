@@ -1,4 +1,9 @@
 // The answer to a line: what the calls answered, and the set's count after them.
+ghost use Rattle.std.specs.Prelude.{OnOk, take};
+ghost use Rattle.std.specs.Io.KnownBytes.{Appends};
+ghost use Rattle.std.specs.List.{flat_map};
+ghost use Rattle.replay_sorted_vec_set.specs.Replay.{member_line, printed};
+
 use crate::State;
 use crate::calls::header;
 use answers::judge::earlier;
@@ -9,7 +14,9 @@ use std::io::Write;
 use words::row::shorter;
 
 // The members, ascending, one to a line: the first `count` elements.
-fn print_members(out: &mut impl Write, elements: &[u64], count: usize) -> io::Result<()> {
+fn print_members<W: Write>(out: &mut W, elements: &[u64], count: usize) -> io::Result<()>
+    ensures { OnOk result (Appends (W.contents out.old) (W.contents out.new) (flat_map member_line (take count elements.now))) }
+{
     for place in 0..shorter(count, elements.len()) {
         print_member(out, elements[place])?;
     }
@@ -17,7 +24,9 @@ fn print_members(out: &mut impl Write, elements: &[u64], count: usize) -> io::Re
 }
 
 // The value and the count; before those of a dump, the members.
-pub fn print(out: &mut impl Write, line: Line, state: State, elements: &[u64]) -> io::Result<()> {
+pub fn print<W: Write>(out: &mut W, line: Line, state: State, elements: &[u64]) -> io::Result<()>
+    ensures { OnOk result (Appends (W.contents out.old) (W.contents out.new) (printed line state elements.now)) }
+{
     let set = header(state, line.set);
     if line.operation == 0x0e {
         print_members(out, elements, set.count)?;
