@@ -5,6 +5,7 @@ use Rattle.std.specs.List.{flat_map}
 use Rattle.answers.specs.declared.Answer.{Answer}
 use Rattle.answers.specs.Judging.{earlier}
 use Rattle.history.specs.Fields.{hexadecimal}
+use Rattle.history.specs.declared.TheConstants.{UNKNOWN}
 use Rattle.history.specs.declared.line.Line.{Line}
 use Rattle.history.specs.Lines.{lower}
 use Rattle.sorted_vec_set.specs.declared.SortedVecSet.{SortedVecSet}
@@ -19,8 +20,8 @@ header_of s set = get_or s.sets (min set 2) (record { count = 0 })
 abbrev pub reading : Answer → Bytes → Outcome
 reading answer b = record { answer = answer; bytes = b }
 
--- what the call that a line names leaves, of those that write one set at most: of the set over these elements, and of the
--- operands over a and b; a read of two sets may be of one set twice
+-- what the call that a line names leaves, of those that write one set at most: the set is over these elements, the operands
+-- are over a and b, and a read of two sets may be of one set twice
 unfoldable pub asked : Line → State → List ℕ → List ℕ → List ℕ → Outcome
 asked line s elements a b =
     let target = bytes_of (header_of s line.set) elements in
@@ -43,14 +44,14 @@ asked line s elements a b =
     else if code == 0x0d then reading (comparing target operand) target
     else if code == 0x0e then reading (counting target) target
     else if code == 0x15 then singling line.number target
-    else refused 6 target
+    else refused UNKNOWN target
 
 -- of the elements of the two other sets, the lower set's first, those of one of them
-unfoldable pub operand_elements : Line → ℕ → List ℕ → List ℕ → List ℕ
+abbrev pub operand_elements : Line → ℕ → List ℕ → List ℕ → List ℕ
 operand_elements line set first second = if set == lower line.set then first else second
 
 -- what handing the set's elements over to the set a leaves, which is over these others
-unfoldable pub handing : Line → State → List ℕ → List ℕ → Handed
+abbrev pub handing : Line → State → List ℕ → List ℕ → Handed
 handing line s elements others = taking (bytes_of (header_of s line.set) elements) (bytes_of (header_of s line.a) others)
 
 -- the state with another header for a set
@@ -66,44 +67,49 @@ with_answer s answer =
     }
 
 -- the state after a call that left an outcome of a line's set
-unfoldable pub followed : Line → State → Outcome → State
+abbrev pub followed : Line → State → Outcome → State
 followed line s o = with_answer (with_header s line.set (record { count = o.bytes.count })) o.answer
 
 -- the state after the set's elements were handed over to the set a
-unfoldable pub followed_handing : Line → State → Handed → State
+abbrev pub followed_handing : Line → State → Handed → State
 followed_handing line s h =
     let cleared = with_header s line.set (record { count = h.from.count }) in
     with_answer (with_header cleared line.a (record { count = h.to.count })) h.answer
 
 -- what a line's call leaves: the state, and the elements of its set and of the two others, the lower set's first
-pub record Left : Type 0 where
+pub record Made : Type 0 where
   pub state : State
   pub elements : List ℕ
   pub first : List ℕ
   pub second : List ℕ
 
-unfoldable pub made : Line → State → List ℕ → List ℕ → List ℕ → Left
-made line s elements first second =
-    let o = asked line s elements (operand_elements line line.a first second) (operand_elements line line.b first second) in
-    let to_first = handing line s elements first in
-    let to_second = handing line s elements second in
-    if line.operation == 0x14
-    then (if line.a == lower line.set
-    then record { state = followed_handing line s to_first; elements = to_first.from.elements; first = to_first.to.elements; second = second }
-    else record { state = followed_handing line s to_second; elements = to_second.from.elements; first = first; second = to_second.to.elements })
+-- the call that a line names, on such a state and such elements: take_clearing writes two sets, any other one at most
+unfoldable pub making : Line → State → List ℕ → List ℕ → List ℕ → Made
+making line s elements first second =
+    let a = operand_elements line line.a first second in
+    let b = operand_elements line line.b first second in
+    let o = asked line s elements a b in
+    let h = handing line s elements a in
+    let into_first = line.a == lower line.set in
+    if line.operation == 0x14 then record {
+      state = followed_handing line s h;
+      elements = h.from.elements;
+      first = if into_first then h.to.elements else first;
+      second = if into_first then second else h.to.elements;
+    }
     else record { state = followed line s o; elements = o.bytes.elements; first = first; second = second }
 
 -- the line that a member of a dump is printed on
 abbrev pub member_line : ℕ → List ℕ
 member_line x = hexadecimal 16 x ++ 10 ∷ []
 
--- the members that a line has printed before its answer, those of a dump alone
+-- the lines of members before the answer's, which a dump alone has
 unfoldable pub dump : Line → Bytes → List ℕ
 dump line b = if line.operation == 0x0e then flat_map member_line (members b) else []
 
--- the fields of an answer: value and count, or the number alone where one refused
-unfoldable pub fields : State → Answer → List ℕ
-fields s count =
+-- the fields of the answer: value and count, or the number alone where a call was refused
+unfoldable pub answer_fields : State → Answer → List ℕ
+answer_fields s count =
     let number = earlier s.number count.number in
     if number == 0 then hexadecimal 16 s.value ++ hexadecimal 6 count.value else hexadecimal 2 number
 
@@ -111,4 +117,4 @@ fields s count =
 unfoldable pub printed : Line → State → List ℕ → List ℕ
 printed line s elements =
     let b = bytes_of (header_of s line.set) elements in
-    dump line b ++ fields s (counting b) ++ 10 ∷ []
+    dump line b ++ answer_fields s (counting b) ++ 10 ∷ []

@@ -1,7 +1,7 @@
 // The calls that a line names by its operation's code.
 ghost use Rattle.std.specs.Prelude.{◌≡◌};
-ghost use Rattle.sorted_vec_set.specs.Calls.{left, bytes_of};
-ghost use Rattle.replay_sorted_vec_set.specs.Replay.{header_of, asked, operand_elements, with_answer, with_header, handing, followed_handing, made};
+ghost use Rattle.sorted_vec_set.specs.Calls.{left};
+ghost use Rattle.replay_sorted_vec_set.specs.Replay.{header_of, operand_elements, asked, handing, with_header, with_answer, followed_handing, making};
 
 use crate::State;
 use answers::Answer;
@@ -71,7 +71,6 @@ fn serve(line: Line, state: State, elements: &mut [u64], a: &[u64], b: &[u64]) -
 
 // Tells the operands' elements among those of the two other sets. Where an operand is the target, or a call has none,
 // nothing uses what is found.
-#[tactic(auto, unfolding(crate::specs::Replay::operand_elements))]
 fn serve_among<'a>(
     line: Line,
     state: State,
@@ -79,7 +78,9 @@ fn serve_among<'a>(
     first: &'a [u64],
     second: &'a [u64],
 ) -> Reply
-    ensures { left result elements.new ≡ asked line state elements.old (operand_elements line line.a first.now second.now) (operand_elements line line.b first.now second.now) }
+    ensures { let a = operand_elements line line.a first.now second.now in
+        let b = operand_elements line line.b first.now second.now in
+        left result elements.new ≡ asked line state elements.old a b }
 {
     let lower = line.lower();
     let a = if line.a == lower { first } else { second };
@@ -109,7 +110,7 @@ fn put(mut state: State, set: usize, header: SortedVecSet) -> State
 }
 
 // Hands the target's elements over to another set, which is written, too.
-#[tactic(auto, unfolding(crate::specs::Replay::handing, crate::specs::Replay::followed_handing, sorted_vec_set::specs::Calls::bytes_of, sorted_vec_set::specs::Calls::handed))]
+#[tactic(auto, unfolding(sorted_vec_set::specs::Calls::bytes_of, sorted_vec_set::specs::Calls::handed))]
 fn take(line: Line, state: State, elements: &mut [u64], others: &mut [u64]) -> State
     ensures state { result ≡ followed_handing line state (handing line state elements.old others.old) }
     ensures elements { elements.new ≡ (handing line state elements.old others.old).from.elements }
@@ -124,7 +125,7 @@ fn take(line: Line, state: State, elements: &mut [u64], others: &mut [u64]) -> S
 }
 
 // One call, over elements that are lent.
-#[tactic(auto, unfolding(crate::specs::Replay::made, crate::specs::Replay::followed, sorted_vec_set::specs::Calls::left))]
+#[tactic(auto, unfolding(crate::specs::Replay::making, sorted_vec_set::specs::Calls::left))]
 pub fn make(
     line: Line,
     state: State,
@@ -132,10 +133,10 @@ pub fn make(
     first: &mut [u64],
     second: &mut [u64],
 ) -> State
-    ensures state { result ≡ (made line state elements.old first.old second.old).state }
-    ensures elements { elements.new ≡ (made line state elements.old first.old second.old).elements }
-    ensures first { first.new ≡ (made line state elements.old first.old second.old).first }
-    ensures second { second.new ≡ (made line state elements.old first.old second.old).second }
+    ensures state { result ≡ (making line state elements.old first.old second.old).state }
+    ensures elements { elements.new ≡ (making line state elements.old first.old second.old).elements }
+    ensures first { first.new ≡ (making line state elements.old first.old second.old).first }
+    ensures second { second.new ≡ (making line state elements.old first.old second.old).second }
 {
     if line.operation == 0x14 {
         if line.a == line.lower() {

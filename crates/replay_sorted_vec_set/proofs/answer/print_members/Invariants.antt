@@ -6,4 +6,5 @@ use Rattle.replay_sorted_vec_set.proofs.answer.print_members.Given as goal
 
 -- the elements before the place are printed
 abbrev pub invariant-loop-place : goal.invariant-loop-place
-invariant-loop-place g l = Appends (g.W.Write.contents l.initial.out) (g.W.Write.contents l.out) (flat_map member_line (take l.place l.elements))
+invariant-loop-place g l =
+    Appends (g.W.Write.contents l.initial.out) (g.W.Write.contents l.out) (flat_map member_line (take l.place l.elements))
