@@ -12,7 +12,7 @@ use Rattle.sorted_vec_set.specs.declared.SortedVecSet.{SortedVecSet}
 use Rattle.sorted_vec_set.specs.Calls.{Bytes, Outcome, Handed, members, refused, bytes_of, preparing, inserting, removing, toggling, clearing, singling, xoring, xoring_shared, xoring_unshared, containing, counting, emptiness, counting_shared, comparing, taking}
 use Rattle.replay_sorted_vec_set.specs.declared.State.{State}
 
--- the header of a set; one above 2 counts as 2
+-- the header of one of the three sets; one above 2 counts as 2
 unfoldable pub header_of : State → ℕ → SortedVecSet
 header_of s set = get_or s.sets (min set 2) (record { count = 0 })
 
@@ -50,7 +50,7 @@ asked line s elements a b =
 abbrev pub operand_elements : Line → ℕ → List ℕ → List ℕ → List ℕ
 operand_elements line set first second = if set == lower line.set then first else second
 
--- what handing the set's elements over to the set a leaves, which is over these others
+-- what is left where the set's elements are handed over to the set a, which is over the others
 abbrev pub handing : Line → State → List ℕ → List ℕ → Handed
 handing line s elements others = taking (bytes_of (header_of s line.set) elements) (bytes_of (header_of s line.a) others)
 
@@ -58,7 +58,7 @@ handing line s elements others = taking (bytes_of (header_of s line.set) element
 unfoldable pub with_header : State → ℕ → SortedVecSet → State
 with_header s place header = record s { sets = set s.sets (min place 2) header }
 
--- the state after an answer: its value is added, and its number kept where it refuses
+-- the state after an answer: its value is added, as a u64 has it, and its number kept where it refuses
 unfoldable pub with_answer : State → Answer → State
 with_answer s answer =
     record s {
@@ -83,7 +83,7 @@ pub record Made : Type 0 where
   pub first : List ℕ
   pub second : List ℕ
 
--- the call that a line names, on such a state and such elements: take_clearing writes two sets, any other one at most
+-- what the call that a line names leaves: take_clearing (0x14) writes two sets, any other call one at most
 unfoldable pub making : Line → State → List ℕ → List ℕ → List ℕ → Made
 making line s elements first second =
     let a = operand_elements line line.a first second in
