@@ -1,7 +1,7 @@
 // Printing the answer to a line: fields of lowercase hexadecimal digits, and a newline.
 ghost use Rattle.std.specs.Prelude.{[], ◌∷◌, ◌++◌, OnOk};
 ghost use Rattle.std.specs.Io.KnownBytes.{Appends};
-ghost use Rattle.history.specs.Fields.{hexadecimal};
+ghost use Rattle.history.specs.Fields.{hexadecimal, member_line};
 
 use std::io;
 use std::io::Write;
@@ -22,7 +22,7 @@ pub fn end_line<W: Write>(out: &mut W) -> io::Result<()>
 
 // A member of a dump, on a line of its own.
 pub fn print_member<W: Write>(out: &mut W, member: u64) -> io::Result<()>
-    ensures { OnOk result (Appends (W.contents out.old) (W.contents out.new) (hexadecimal 16 member ++ 10 ∷ [])) }
+    ensures { OnOk result (Appends (W.contents out.old) (W.contents out.new) (member_line member)) }
 {
     print_field(out, member, 16)?;
     end_line(out)

@@ -10,7 +10,7 @@ use Rattle.words.proofs.Cases.{three_ways, below_or_not, and_parts}
 use Rattle.words.proofs.SetLaws.{has-append, from-append}
 use Rattle.words.proofs.RowLaws.{at-past}
 use Rattle.words.proofs.MemberLaws.{members_are}
-use Rattle.replay_bitset.specs.Replay.{member_line}
+use Rattle.history.specs.Fields.{member_line}
 
 -- the indices below n that words have, lowest first
 unfoldable pub present : List ℕ → ℕ → List ℕ

@@ -1,96 +1,89 @@
--- What a line of a history asks of the three sets, the state that its calls leave, and the bytes that answer it;
--- oracle/README.md has the table of operations. Assumes nothing.
-use Rattle.std.specs.Prelude.{List, [], ◌∷◌, ◌++◌, ℕ, ◌+◌, ◌%◌, ◌^◌, min, eqb, ltb, get_or, set, take, flat_map}
-use Rattle.words.specs.Sets.{pick}
+-- What a line of a history asks for, what its call leaves, and what is printed after it; oracle/README.md has the table of
+-- operations. Assumes nothing.
+use Rattle.std.specs.Prelude.{ℕ, ◌+◌, ◌%◌, ◌^◌, min, List, [], ◌∷◌, ◌++◌, get_or, set, take, ◌==◌, nat_lt, if◌then◌else◌}
+use Rattle.std.specs.List.{flat_map}
 use Rattle.words.specs.Words.{members}
 use Rattle.answers.specs.declared.Answer.{Answer}
+use Rattle.answers.specs.declared.TheConstants.{LENGTH}
 use Rattle.answers.specs.Judging.{earlier}
-use Rattle.history.specs.Fields.{hexadecimal}
+use Rattle.history.specs.Fields.{hexadecimal, member_line}
+use Rattle.history.specs.declared.TheConstants.{UNKNOWN}
 use Rattle.history.specs.declared.line.Line.{Line}
 use Rattle.bitset.specs.declared.BitSet.{BitSet}
-use Rattle.bitset.specs.Calls.{Bytes, Outcome, bytes_of, preparing, inserting, removing, toggling, clearing, xoring, xoring_shared, xoring_unshared, flipping, flipping_shared, containing, counting, emptiness, counting_shared, counting_entries, comparing}
+use Rattle.bitset.specs.Calls.{Bytes, Outcome, refused, bytes_of, preparing, inserting, removing, toggling, clearing, xoring, xoring_shared, xoring_unshared, flipping, flipping_shared, containing, counting, emptiness, counting_shared, counting_entries, comparing}
 use Rattle.replay_bitset.specs.declared.State.{State}
 
--- the header of one of the three sets, of which one above 2 counts as 2
+-- the header of one of the three sets; one above 2 counts as 2
 abbrev pub header_of : State → ℕ → BitSet
 header_of s place = get_or s.sets (min place 2) (record { span = 0 })
 
--- a read gives its answer, and the set's bytes stay
+-- what a read leaves: its answer, and the bytes as they were
 abbrev pub reading : Answer → Bytes → Outcome
 reading answer b = record { answer = answer; bytes = b }
 
--- the call that a line names by its operation's code, made on the words of its set and of its operands, and on the list; a
--- read may have its own set as the operand. What a BitSet doesn't have, a push too, is refused with 6, `UNKNOWN`
+-- what the call that a line names leaves: the set is over these words, the operands are over a and b, and a read of two sets may
+-- be of one set twice. The slice forms take the list. What a BitSet doesn't have, a push too, is refused and changes nothing
 unfoldable pub asked : Line → State → List ℕ → List ℕ → List ℕ → List ℕ → Outcome
-asked l s words a b list =
-    let own = bytes_of (header_of s l.set) words in
-    let first = bytes_of (header_of s l.a) a in
-    let second = bytes_of (header_of s l.b) b in
-    let read_with = pick (eqb l.a l.set) own first in
-    pick (eqb l.operation 0x00) (preparing words)
-    (pick (eqb l.operation 0x01) (inserting l.number own)
-    (pick (eqb l.operation 0x02) (removing l.number own)
-    (pick (eqb l.operation 0x03) (toggling l.number own)
-    (pick (eqb l.operation 0x04) (reading (containing l.number own) own)
-    (pick (eqb l.operation 0x05) (reading (counting own) own)
-    (pick (eqb l.operation 0x06) (clearing own)
-    (pick (eqb l.operation 0x07) (xoring own first)
-    (pick (eqb l.operation 0x08) (reading (counting_shared own read_with) own)
-    (pick (eqb l.operation 0x09) (xoring_shared own first second)
-    (pick (eqb l.operation 0x0a) (xoring_unshared own first second)
-    (pick (eqb l.operation 0x0c) (reading (emptiness own) own)
-    (pick (eqb l.operation 0x0d) (reading (comparing own read_with) own)
-    (pick (eqb l.operation 0x0e) (reading (counting own) own)
-    (pick (eqb l.operation 0x11) (flipping list own)
-    (pick (eqb l.operation 0x12) (flipping_shared list own first)
-    (pick (eqb l.operation 0x13) (reading (counting_entries list own) own)
-    (reading (record { number = 6; value = 0 }) own)))))))))))))))))
+asked line s words a b list =
+    let target = bytes_of (header_of s line.set) words in
+    let first = bytes_of (header_of s line.a) a in
+    let second = bytes_of (header_of s line.b) b in
+    let operand = if line.a == line.set then target else first in
+    let code = line.operation in
+    if code == 0x00 then preparing words
+    else if code == 0x01 then inserting line.number target
+    else if code == 0x02 then removing line.number target
+    else if code == 0x03 then toggling line.number target
+    else if code == 0x04 then reading (containing line.number target) target
+    else if code == 0x05 then reading (counting target) target
+    else if code == 0x06 then clearing target
+    else if code == 0x07 then xoring target first
+    else if code == 0x08 then reading (counting_shared target operand) target
+    else if code == 0x09 then xoring_shared target first second
+    else if code == 0x0a then xoring_unshared target first second
+    else if code == 0x0c then reading (emptiness target) target
+    else if code == 0x0d then reading (comparing target operand) target
+    else if code == 0x0e then reading (counting target) target
+    else if code == 0x11 then flipping list target
+    else if code == 0x12 then flipping_shared list target first
+    else if code == 0x13 then reading (counting_entries list target) target
+    else refused UNKNOWN target
 
--- the state after a call that left an outcome: the values are summed as a u64 has them, and the slice forms empty the list
+-- the state after a call that left an outcome of a line's set: the values are added, as a u64 has them, the number is kept where
+-- it refuses, and the slice forms, with codes above 0x10, empty the list
 unfoldable pub followed : Line → State → Outcome → State
-followed l s o =
-    record {
-      sets = set s.sets (min l.set 2) (record { span = o.bytes.span });
-      lent = s.lent;
-      entries = pick (ltb 0x10 l.operation) 0 s.entries;
+followed line s o =
+    record s {
+      sets = set s.sets (min line.set 2) (record { span = o.bytes.span });
+      entries = if nat_lt 0x10 line.operation then 0 else s.entries;
       value = (s.value + o.answer.value) % 2 ^ 64;
-      number = pick (eqb o.answer.number 0) s.number o.answer.number;
+      number = if o.answer.number == 0 then s.number else o.answer.number;
     }
 
--- the state after a push on a list with so much room: one entry more, or where it is full the number 1, `LENGTH`
+-- the state after a push on a list with so much room: one entry more, or the refusal of a length where the list is full
 unfoldable pub pushed : State → ℕ → State
-pushed s room = pick (ltb s.entries room) (record s { entries = s.entries + 1 }) (record s { number = 1 })
+pushed s room = if nat_lt s.entries room then record s { entries = s.entries + 1 } else record s { number = LENGTH }
 
--- the list after a line's call: a push puts the line's number behind the entries, where there is room
+-- the list after a line's call: a push (0x10) puts the line's number behind the entries, where there is room
 unfoldable pub listed : Line → State → List ℕ → List ℕ
-listed l s list = pick (eqb l.operation 0x10) (set list s.entries l.number) list
+listed line s list = if line.operation == 0x10 then set list s.entries line.number else list
 
--- ---- what is printed
-
--- a member of a dump, on a line of its own
-abbrev pub member_line : ℕ → List ℕ
-member_line member = hexadecimal 16 member ++ 10 ∷ []
-
--- the members of a set, ascending; no set is lent more than 8,192 words
+-- the members of a set, a line each; no set is lent more than 8,192 words
 abbrev pub member_lines : List ℕ → List ℕ
 member_lines words = flat_map member_line (members (take 8192 words))
 
--- what stands before the own line of a dump, and of no other operation
-unfoldable pub dumped : Line → List ℕ → List ℕ
-dumped l words = pick (eqb l.operation 0x0e) (member_lines words) []
+-- the lines of members before the answer's, which a dump alone has
+unfoldable pub dump : Line → List ℕ → List ℕ
+dump line words = if line.operation == 0x0e then member_lines words else []
 
--- the value that the calls answered, and the set's count and span after them
-abbrev pub fields : State → BitSet → Answer → List ℕ
-fields s set count = hexadecimal 16 s.value ++ hexadecimal 6 count.value ++ hexadecimal 4 set.span
-
--- the number alone where a call or the count was refused, else the fields
-unfoldable pub answer_of : State → BitSet → Answer → List ℕ
-answer_of s set count =
+-- the fields of the answer: value, count and span, or the number alone where a call was refused
+unfoldable pub answer_fields : State → BitSet → Answer → List ℕ
+answer_fields s own count =
     let number = earlier s.number count.number in
-    pick (eqb number 0) (fields s set count) (hexadecimal 2 number)
+    if number == 0 then hexadecimal 16 s.value ++ hexadecimal 6 count.value ++ hexadecimal 4 own.span else hexadecimal 2 number
 
--- the bytes that answer a line
+-- what is printed after a line's calls, whose set is over these words
 unfoldable pub printed : Line → State → List ℕ → List ℕ
-printed l s words =
-    let own = header_of s l.set in
-    dumped l words ++ answer_of s own (counting (bytes_of own words)) ++ 10 ∷ []
+printed line s words =
+    let own = header_of s line.set in
+    dump line words ++ answer_fields s own (counting (bytes_of own words)) ++ 10 ∷ []

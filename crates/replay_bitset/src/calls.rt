@@ -26,7 +26,7 @@ fn read(answer: Answer, set: BitSet) -> Reply
 }
 
 // The call itself. `a` and `b` are the operands' words; a read may have its target as the operand, too.
-#[tactic(auto, unfolding(crate::specs::Replay::asked, bitset::specs::Calls::left, bitset::specs::Calls::bytes_of))]
+#[tactic(auto, unfolding(crate::specs::Replay::asked, bitset::specs::Calls::left, bitset::specs::Calls::bytes_of, bitset::specs::Calls::refused))]
 fn serve(line: Line, state: State, words: &mut [u64], a: &[u64], b: &[u64], list: &[usize]) -> Reply
     ensures { left result words.new ≡ asked line state words.old a.now b.now list.now }
 {

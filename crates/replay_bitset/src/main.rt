@@ -7,7 +7,7 @@
 mod answer;
 mod calls;
 
-ghost use Rattle.std.specs.Prelude.{◌≤◌, length};
+ghost use Rattle.std.specs.Prelude.{◌≡◌, ◌≤◌, min, length, slice_index};
 
 use bitset::BitSet;
 use history::line;
@@ -29,7 +29,8 @@ pub struct State {
 
 // How many of a buffer's words are lent to a set.
 fn lent(state: State, set: usize, words: &[u64]) -> usize
-    ensures { result ≤ length words.now }
+    ensures within { result ≤ length words.now }
+    ensures lent { result ≡ min (slice_index state.lent (min set 2)) (length words.now) }
 {
     let place = shorter(set, 2);
     shorter(state.lent[place], words.len())

@@ -4,7 +4,7 @@ use Rattle.std.specs.Prelude.{ℕ, ◌+◌, ◌%◌, ◌^◌, min, List, [], ◌
 use Rattle.std.specs.List.{flat_map}
 use Rattle.answers.specs.declared.Answer.{Answer}
 use Rattle.answers.specs.Judging.{earlier}
-use Rattle.history.specs.Fields.{hexadecimal}
+use Rattle.history.specs.Fields.{hexadecimal, member_line}
 use Rattle.history.specs.declared.TheConstants.{UNKNOWN}
 use Rattle.history.specs.declared.line.Line.{Line}
 use Rattle.history.specs.Lines.{lower}
@@ -98,10 +98,6 @@ making line s elements first second =
       second = if into_first then second else h.to.elements;
     }
     else record { state = followed line s o; elements = o.bytes.elements; first = first; second = second }
-
--- the line that a member of a dump is printed on
-abbrev pub member_line : ℕ → List ℕ
-member_line x = hexadecimal 16 x ++ 10 ∷ []
 
 -- the lines of members before the answer's, which a dump alone has
 unfoldable pub dump : Line → Bytes → List ℕ

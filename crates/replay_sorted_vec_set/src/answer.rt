@@ -2,7 +2,8 @@
 ghost use Rattle.std.specs.Prelude.{OnOk, take};
 ghost use Rattle.std.specs.Io.KnownBytes.{Appends};
 ghost use Rattle.std.specs.List.{flat_map};
-ghost use Rattle.replay_sorted_vec_set.specs.Replay.{member_line, printed};
+ghost use Rattle.history.specs.Fields.{member_line};
+ghost use Rattle.replay_sorted_vec_set.specs.Replay.{printed};
 
 use crate::State;
 use crate::calls::header;

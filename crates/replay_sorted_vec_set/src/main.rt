@@ -7,7 +7,7 @@
 mod answer;
 mod calls;
 
-ghost use Rattle.std.specs.Prelude.{◌≤◌, length};
+ghost use Rattle.std.specs.Prelude.{◌≡◌, ◌≤◌, min, length, slice_index};
 
 use history::line;
 use history::line::Line;
@@ -28,7 +28,8 @@ pub struct State {
 
 // How many of a buffer's elements are lent to a set.
 fn lent(state: State, set: usize, elements: &[u64]) -> usize
-    ensures { result ≤ length elements.now }
+    ensures within { result ≤ length elements.now }
+    ensures lent { result ≡ min (slice_index state.lent (min set 2)) (length elements.now) }
 {
     let place = shorter(set, 2);
     shorter(state.lent[place], elements.len())

@@ -1,6 +1,6 @@
 use Rattle.std.proofs.Common.{flat_map}
 use Rattle.std.specs.Io.KnownBytes.{Appends}
-use Rattle.replay_bitset.specs.Replay.{member_line}
+use Rattle.history.specs.Fields.{member_line}
 use Rattle.replay_bitset.proofs.PrintLaws.{present}
 use Rattle.replay_bitset.proofs.answer.print_members.Given as goal
 

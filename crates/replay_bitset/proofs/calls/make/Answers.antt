@@ -1,6 +1,6 @@
 use Rattle.std.proofs.Common.{◌≡◌, ℕ, ◌-◌, min, List, length, take, ap, arith}
 use Rattle.std.proofs.lemmas.List.{take_min}
-use Rattle.bitset.specs.Calls.{Outcome, left, bytes_of}
+use Rattle.bitset.specs.Calls.{Outcome, left, bytes_of, refused}
 use Rattle.replay_bitset.specs.Replay.{asked}
 use Rattle.replay_bitset.proofs.calls.make.Goals as goal
 
@@ -12,7 +12,7 @@ entries n end list e =
 
 -- a push leaves the words to the set
 pub returns-then-line-eq16-clause-words : goal.returns-then-line-eq16-clause-words
-unfolding asked bytes_of
+unfolding asked bytes_of refused
 returns-then-line-eq16-clause-words c = rw c.if-line-eq16.true
 
 pub returns-clause-called : goal.returns-clause-called

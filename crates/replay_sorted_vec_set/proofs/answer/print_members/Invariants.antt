@@ -1,7 +1,7 @@
 use Rattle.std.proofs.Common.{take}
 use Rattle.std.specs.Io.KnownBytes.{Appends}
 use Rattle.std.specs.List.{flat_map}
-use Rattle.replay_sorted_vec_set.specs.Replay.{member_line}
+use Rattle.history.specs.Fields.{member_line}
 use Rattle.replay_sorted_vec_set.proofs.answer.print_members.Given as goal
 
 -- the elements before the place are printed
