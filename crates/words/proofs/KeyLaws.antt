@@ -9,7 +9,8 @@ use native.Mathlib.Omega.{arith}
 use lib.ListN.{length, get_or, drop, set, length-append, drop_of_length-le}
 use lib.Seq.{sets, length-sets, sets-eq, drop-cons}
 use Rattle.words.specs.Words.{ones_from, lowest, put, members_from, members, count, flip, flips}
-use Rattle.words.proofs.BitLaws.{ones-lowest}
+use Rattle.words.proofs.SetLaws.{below_at}
+use Rattle.words.proofs.BitLaws.{lowest-lt, ones-lowest}
 
 -- ---- keys written, one after another
 
@@ -44,6 +45,13 @@ pub ones-next : {all old new : List ℕ} {to n : ℕ} (base word : ℕ) → Writ
     → 0 < word → word < 2 ^ 64 → Writing all to old (ones_from base 64 (put word (lowest word) false)) (n + 1) (set new n (base + lowest word))
 ones-next base word w p h = writing-next w ((base + lowest word) ∷ []) _ (ones-lowest base word p h)
 
+-- a word that is not 0 has a one, and room is left for it
+pub ones-some : (b w : ℕ) → 0 < w → w < 2 ^ 64 → 0 < length (ones_from b 64 w)
+ones-some b w p h = omega (arith, ap length (ones-lowest b w p h))
+
+-- what the walk over the ones of a word stays within
+pub ruleset walking = (lowest-lt, ones-some)
+
 -- ---- the members of words written, word by word
 
 pub members_begin : {old : List ℕ} (ws : List ℕ) → count ws ≤ length old → Writing (members ws) 0 old (members ws) 0 old
@@ -75,3 +83,6 @@ flips-next ws old ks i e h = rw (add-one i) (sym (ap (flips ws) (drop-cons ks i 
 pub flips_end : (ws old ks : List ℕ) (i : ℕ) → flips ws (drop i ks) ≡ flips old ks → length ks ≤ i → ws ≡ flips old ks
 unfolding flips
 flips_end ws old ks i e h = sym (ap (flips ws) (drop_of_length-le ks h)) ∙ e
+
+-- what flipping each key of a list keeps
+pub ruleset flipping = (below_at, flips-next, flips_end)

@@ -1,22 +1,27 @@
--- What the loops over rows keep: counting up, coming down to the last word that is not 0, and writing word by word. Each is
--- stated over any row, so that a row of words and rows combined have one proof. Assumes nothing.
+-- What the loops over rows keep: counting up, coming down to the last word that is not 0, and writing word by word; and what
+-- chains over a row give. Each is stated over any row, so that a row of words and rows combined have one proof. Assumes nothing.
 use mathlib.Core.Path.{◌≡◌, refl, sym, ap, ◌∙◌}
 use mathlib.Core.Logic.{⊎_elim}
 use mathlib.Core.Bool.{◌&&◌, and_assoc, and-true}
-use mathlib.Core.List.{List, [], ◌∷◌, ◌++◌}
+use mathlib.Core.List.{List, [], ◌∷◌, ◌++◌, append-nil}
 use Prim.Native.Nat.{ℕ, zero, suc, ◌+◌, ◌-◌, ◌*◌, ◌≤◌, ◌<◌, min}
 use native.Mathlib.Numerals.{add-one}
 use native.Mathlib.Omega.{arith}
 use lib.Bits.{bit_or, bit_xor}
 use lib.Dec.{eqb}
-use lib.ListN.{length, get_or, set, take, drop, length-take, length-drop, length-set, drop_of_length-le, take-append-drop}
+use lib.ListN.{length, get_or, set, take, drop, get_or-eq_default, length-take, length-drop, length-set, drop_of_length-le, take-append-drop}
 use lib.Seq.{drop-cons, take_all, take-suc, length-take-le, set_at, append_snoc, take-suc-set, drop-set-lt}
 use borrow.Author.Tests.{ne_eqb}
+use borrow.Rule.Slice.PartMut.{put_mid}
+use Rattle.std.specs.List.{sum_by}
+use Rattle.std.proofs.lemmas.List.Recursion.{is_sum_by}
+use Rattle.std.proofs.Common.{Option, Some, None}
+use Rattle.std.specs.Option.{MatchOption, option_map_or}
 use Rattle.words.specs.Sets.{pick}
 use Rattle.words.specs.Words.{ones_from, members_from, count, exact, exact_from, reach, zeros, xors, ands, into}
 use Rattle.words.proofs.Cases.{below_or_not}
 use Rattle.words.proofs.BitLaws.{or_zero}
-use Rattle.words.proofs.RowLaws.{count-cons, count_none, count-le, exact-le, exact_past, exact_last, exact-append, xors-none, into_twice}
+use Rattle.words.proofs.RowLaws.{count-cons, count_none, count-le, exact-le, exact-is, exact_past, exact_last, exact-append, xors-none, into_twice}
 
 -- a slice from a place to its end, as the code takes it
 abbrev pub tail : List ℕ → ℕ → List ℕ
@@ -125,6 +130,10 @@ counted-rest {r} {k} {n} {i} c h e =
 pub rest-count-le : {r : List ℕ} {k rest : ℕ} → Rest count r k rest → rest ≤ 64 * length r
 rest-count-le {r} {k} e = omega (arith, e.is, count-le (drop k r), length-drop k r)
 
+-- the count of a row is the sum of its words' counts
+pub sum_of_counts : (r : List ℕ) → count r ≡ sum_by (λ w. count (w ∷ [])) r
+sum_of_counts = is_sum_by count (λ w. count (w ∷ [])) count_none count-cons
+
 -- ---- the exact span, walking up
 
 pub exact_begin : (ws : List ℕ) → exact_from 0 0 ws ≡ exact ws
@@ -138,6 +147,21 @@ exact_turn ws i s t e h q = rw (q, add-one i) (sym (ap (exact_from i s) (drop-co
 pub exact_end : (ws : List ℕ) (i s : ℕ) → exact_from i s (drop i ws) ≡ exact ws → length ws ≤ i → s ≡ exact ws
 unfolding exact_from
 exact_end ws i s e h = sym (ap (exact_from i s) (drop_of_length-le ws h)) ∙ e
+
+-- ---- the exact span, by the place of the last word that is not 0
+
+-- past the end of a row there is nothing but 0
+zero-at : (ws : List ℕ) (k : ℕ) → (k < length ws → get_or ws k 0 ≡ 0) → get_or ws k 0 ≡ 0
+zero-at ws k z = ⊎_elim z (λ past. get_or-eq_default ws 0 past) (below_or_not k (length ws))
+
+pub exact_by_last : (ws : List ℕ) (last : Option ℕ)
+    → MatchOption last ((k : ℕ) → k < length ws → get_or ws k 0 ≡ 0)
+    (λ p. ¬ (get_or ws p 0 ≡ 0) × ((k : ℕ) → p < k → k < length ws → get_or ws k 0 ≡ 0))
+    → option_map_or (λ p. p + 1) last 0 ≡ exact ws
+exact_by_last ws None h = sym (exact-is ws 0 (λ k _. zero-at ws k (h k)) (λ k e. omega arith))
+exact_by_last ws (Some p) h =
+    sym (exact-is ws (p + 1) (λ k l. zero-at ws k (h.1 k (omega arith)))
+    (λ k e z. h.0 (ap (λ (j : ℕ). get_or ws j 0) (omega arith) ∙ z)))
 
 -- ---- the exact span, coming down
 
@@ -248,6 +272,12 @@ xored_end {b = b} {new = new} {i} x h =
     ended [] q h = refl
     ended (w ∷ p) [] h = refl
     ended (w ∷ p) (v ∷ q) h = absurd (omega arith)
+
+-- that row, XORed into the part of the words that begins at place k
+pub into_rest : (k : ℕ) (ws b : List ℕ) {part : List ℕ} → part ≡ into (tail ws k) (tail b k) → put_mid k (length ws - k) ws part ≡ into_from k ws b
+into_rest k ws b e =
+    let none : drop (length ws - k) (drop k ws) ≡ [] = drop_of_length-le (drop k ws) (omega (arith, length-drop k ws)) in
+    rw (e, rest-is ws k, rest-is b k, none, append-nil)
 
 -- what is left of the XOR of two rows may go in one row after the other
 pub xored_rests : (a b : List ℕ) {old new mid last : List ℕ} {i : ℕ}

@@ -15,7 +15,7 @@ use borrow.Author.Tests.{eq-eqb, ne_eqb, eqb-true}
 use Rattle.words.specs.Sets.{pick}
 use Rattle.words.specs.Words.{at, ones_from, members_from, members, count, exact_from, exact, zeros, Words, xors, ands, into}
 use Rattle.words.proofs.Cases.{three_ways, same_or_not, and_parts}
-use Rattle.words.proofs.BitLaws.{bit-none, xor_assoc, length-ones, length-ones-le, count-is}
+use Rattle.words.proofs.BitLaws.{bit-none, xor_assoc, test_is, or_is, and-not-is, xor_is, length-ones, length-ones-le, count-is, lowest-is, without-lowest-is}
 
 -- ---- XOR and AND, at each place
 
@@ -130,6 +130,9 @@ count-cons w ws = count-append (w ∷ []) ws
 pub count_word : (w : ℕ) → w < 2 ^ 64 → count (w ∷ []) ≡ ones w
 unfolding count members_from
 count_word w h = rw (append-nil (ones_from 0 64 w)) (count-is 0 64 w h)
+
+-- what the code does to a word, by what its contracts say
+pub ruleset on_words = (test_is, or_is, and-not-is, xor_is, count_word, lowest-is, without-lowest-is)
 
 pub count_none : count [] ≡ 0
 unfolding count

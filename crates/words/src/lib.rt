@@ -6,6 +6,7 @@
 #![tactic(auto)]
 
 pub mod keys;
+pub mod number;
 pub mod row;
 pub mod word;
 pub mod write;

@@ -1,4 +1,6 @@
 // One word, and the place and mask of an index.
+#![tactic(auto, using(crate::proofs::RowLaws::on_words))]
+
 ghost use Rattle.std.specs.Prelude.{◌≡◌, true, false, not, [], ◌∷◌, ◌<◌, ◌/◌, ◌%◌, ◌^◌};
 ghost use Rattle.words.specs.Words.{bit, put, count, lowest};
 

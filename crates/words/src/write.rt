@@ -1,71 +1,65 @@
 // Writing a row of words: one index by its mask, whole rows by XOR, and zeros.
-ghost use Rattle.std.specs.Prelude.{◌≡◌, true, false, ◌++◌, ◌/◌, ◌<◌, length, take, drop, replicate};
+ghost use Rattle.std.specs.Prelude.{◌≡◌, true, false, ◌/◌, ◌<◌, length, replicate, slice_index, slice_set, ℕ};
 ghost use Rattle.words.specs.Words.{at, put_at, flip, ands, xors, into};
 
-use crate::row::shorter;
 use crate::word::{clear, flip, place, set, test};
 
+// Changes the word that an index lies in; answers whether the index was there.
+fn change_at<F: FnOnce(u64, usize) -> u64>(words: &mut [u64], index: usize, change: F) -> bool
+    requires in_words { index / 64 < length words.old }
+    requires callable { F.IsAlwaysCallable change }
+    ensures changed { (w : ℕ) × F.post change (slice_index words.old (index / 64)) index w × (words.new ≡ slice_set words.old (index / 64) w) }
+    ensures was { result ≡ at words.old index }
+{
+    let word = &mut words[place(index)];
+    let was = test(*word, index);
+    *word = change(*word, index);
+    was
+}
+
 // Sets the bit of an index; answers whether it was there.
+#[tactic(auto, unfolding(crate::specs::Words::put_at))]
 pub fn set_at(words: &mut [u64], index: usize) -> bool
     requires { index / 64 < length words.old }
     ensures { (words.new ≡ put_at words.old index true) × (result ≡ at words.old index) }
 {
-    let p = place(index);
-    let word = words[p];
-    words[p] = set(word, index);
-    test(word, index)
+    change_at(words, index, set)
 }
 
 // Clears the bit of an index; answers whether it was there.
+#[tactic(auto, unfolding(crate::specs::Words::put_at))]
 pub fn clear_at(words: &mut [u64], index: usize) -> bool
     requires { index / 64 < length words.old }
     ensures { (words.new ≡ put_at words.old index false) × (result ≡ at words.old index) }
 {
-    let p = place(index);
-    let word = words[p];
-    words[p] = clear(word, index);
-    test(word, index)
+    change_at(words, index, clear)
 }
 
 // Flips the bit of an index; answers whether it was there.
+#[tactic(auto, unfolding(crate::specs::Words::flip))]
 pub fn flip_at(words: &mut [u64], index: usize) -> bool
     requires { index / 64 < length words.old }
     ensures { (words.new ≡ flip words.old index) × (result ≡ at words.old index) }
 {
-    let p = place(index);
-    let word = words[p];
-    words[p] = flip(word, index);
-    test(word, index)
+    change_at(words, index, flip)
 }
 
-// XORs the words of a row from a place on into words, as far as they reach.
-fn xor_in_from(words: &mut [u64], a: &[u64], from: usize)
-    ensures { words.new ≡ take from words.old ++ into (drop from words.old) (drop from a.now) }
-{
-    let k = shorter(words.len(), a.len());
-    let mut i = from;
-    while i < k {
-        words[i] = words[i] ^ a[i];
-        i += 1;
-    }
-}
-
-// XORs a row into words, as far as they reach.
+// XORs a row into words, as far as they reach. By index here and below: after `iter_mut().zip(..)` a proof knows nothing of the
+// words that are left.
 pub fn xor_in(words: &mut [u64], a: &[u64])
     ensures { words.new ≡ into words.old a.now }
 {
-    xor_in_from(words, a, 0);
+    for i in 0..words.len().min(a.len()) {
+        words[i] ^= a[i];
+    }
 }
 
 // XORs what two rows have in common into words, as far as they reach.
 pub fn xor_in_and(words: &mut [u64], a: &[u64], b: &[u64])
     ensures { words.new ≡ into words.old (ands a.now b.now) }
 {
-    let k = shorter(words.len(), shorter(a.len(), b.len()));
-    let mut i = 0;
-    while i < k {
-        words[i] = words[i] ^ (a[i] & b[i]);
-        i += 1;
+    for i in 0..words.len().min(a.len()).min(b.len()) {
+        words[i] ^= a[i] & b[i];
     }
 }
 
@@ -74,23 +68,17 @@ pub fn xor_in_and(words: &mut [u64], a: &[u64], b: &[u64])
 pub fn xor_in_xor(words: &mut [u64], a: &[u64], b: &[u64])
     ensures { words.new ≡ into words.old (xors a.now b.now) }
 {
-    let k = shorter(words.len(), shorter(a.len(), b.len()));
-    let mut i = 0;
-    while i < k {
-        words[i] = words[i] ^ (a[i] ^ b[i]);
-        i += 1;
+    let k = words.len().min(a.len()).min(b.len());
+    for i in 0..k {
+        words[i] ^= a[i] ^ b[i];
     }
-    xor_in_from(words, a, i);
-    xor_in_from(words, b, i);
+    xor_in(&mut words[k..], &a[k..]);
+    xor_in(&mut words[k..], &b[k..]);
 }
 
 // Sets all words to 0.
 pub fn clear_all(words: &mut [u64])
     ensures { words.new ≡ replicate (length words.old) 0 }
 {
-    let mut i = 0;
-    while i < words.len() {
-        words[i] = 0;
-        i += 1;
-    }
+    words.fill(0);
 }
