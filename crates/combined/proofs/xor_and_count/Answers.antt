@@ -1,0 +1,17 @@
+use Rattle.std.proofs.Common.{rules, arith, ◌∙◌, ap, bit_and, bit_xor}
+use Rattle.std.proofs.lemmas.Iterator.{YieldsList-from_slice, YieldsList-from_zip, YieldsList-from_map}
+use Rattle.words.specs.Words.{count}
+use Rattle.words.proofs.RowLaws.{count_none, length-ands}
+use Rattle.combined.proofs.Rows.{xors-ands-parts, xors-rest}
+use Rattle.combined.proofs.xor_and_count.Goals as goal
+
+pub returns : goal.returns
+returns c =
+    c.count_with.ensures _ _
+    (YieldsList-from_map _ (λ p. bit_xor p.0 (bit_and p.1.0 p.1.1))
+    (YieldsList-from_zip (YieldsList-from_slice c.split_at.result.0.now cc)
+    (YieldsList-from_zip (YieldsList-from_slice c.split_at-2.result.0.now cc) (YieldsList-from_slice c.split_at-3.result.0.now cc)))
+    c.map-words.ensures.closure (λ x r q k. search rules))
+    (xors-rest count count_none _ _ (simp length-ands (omega arith)) c.count_all.ensures c.and_count.ensures)
+    ∙ ap count
+    (xors-ands-parts _ _ _ _ c.split_at-2.ensures.by_index.0 c.split_at-3.ensures.by_index.0 (cc) _ _ c.split_at.ensures.by_index.0 (cc))
