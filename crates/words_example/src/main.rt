@@ -7,38 +7,19 @@ use std::io;
 use std::io::{BufWriter, Write};
 use words::{keys, row, word, write};
 
-fn text(out: &mut impl Write, bytes: &[u8]) -> io::Result<()> {
-    out.write_all(bytes)
-}
-
-fn number(out: &mut impl Write, n: usize) -> io::Result<()> {
-    write!(out, "{n}")
-}
-
-fn answer(out: &mut impl Write, was: bool) -> io::Result<()> {
-    if was {
-        text(out, b"yes")
-    } else {
-        text(out, b"no")
-    }
+fn answer(was: bool) -> &'static str {
+    if was { "yes" } else { "no" }
 }
 
 // Where an index lies.
 fn locate(out: &mut impl Write, index: usize) -> io::Result<()> {
-    text(out, b"index ")?;
-    number(out, index)?;
-    text(out, b": word ")?;
-    number(out, word::place(index))?;
-    text(out, b", mask ")?;
-    write!(out, "{:016x}", word::mask(index))?;
-    text(out, b"\n")
+    let place = word::place(index);
+    let mask = word::mask(index);
+    writeln!(out, "index {index}: word {place}, mask {mask:016x}")
 }
 
 fn report(out: &mut impl Write, count: usize, span: usize) -> io::Result<()> {
-    number(out, count)?;
-    text(out, b" members, exact span ")?;
-    number(out, span)?;
-    text(out, b"\n")
+    writeln!(out, "{count} members, exact span {span}")
 }
 
 // What a row holds.
@@ -49,67 +30,48 @@ fn measure(out: &mut impl Write, words: &[u64]) -> io::Result<()>
 }
 
 // Flips an index of 79 words, and says what was there.
-fn flip(out: &mut impl Write, words: &mut [u64], index: usize) -> io::Result<()>
-    requires { length words.old ≡ 79 }
-{
+fn flip(out: &mut impl Write, words: &mut [u64; 79], index: usize) -> io::Result<()> {
     if index < 5056 {
-        text(out, b"flip ")?;
-        number(out, index)?;
-        text(out, b": was there: ")?;
-        answer(out, write::flip_at(words, index))?;
-        text(out, b"; now ")?;
+        let was = answer(write::flip_at(words, index));
+        write!(out, "flip {index}: was there: {was}; now ")?;
         measure(out, words)?;
     }
     Ok(())
 }
 
-// The first n keys, in order.
-fn list(out: &mut impl Write, keys: &[u32], n: usize) -> io::Result<()> {
-    text(out, b"as keys:")?;
-    let mut i = 0;
-    while i < n && i < keys.len() {
-        text(out, b" ")?;
-        number(out, keys[i] as usize)?;
-        i += 1;
+// The keys, in order.
+fn list(out: &mut impl Write, keys: &[u32]) -> io::Result<()> {
+    write!(out, "as keys:")?;
+    for key in keys {
+        write!(out, " {key}")?;
     }
-    text(out, b"\n")
+    writeln!(out)
 }
 
 fn ask(out: &mut impl Write, words: &[u64], index: usize) -> io::Result<()> {
-    text(out, b"contains ")?;
-    number(out, index)?;
-    text(out, b": ")?;
-    answer(out, row::contains(words, index))?;
-    text(out, b"\n")
+    let is_there = answer(row::contains(words, index));
+    writeln!(out, "contains {index}: {is_there}")
 }
 
 // {0..15} with 2048, in 79 words.
-fn fill(words: &mut [u64])
-    requires { length words.old ≡ 79 }
-{
-    let mut i = 0;
-    while i < 16 {
-        write::set_at(words, i);
-        i += 1;
+fn fill(words: &mut [u64; 79]) {
+    for index in 0..16 {
+        write::set_at(words, index);
     }
     write::set_at(words, 2048);
 }
 
-fn compare(out: &mut impl Write, a: &[u64], b: &[u64]) -> io::Result<()>
-    requires { (length a.now ≡ 79) × (length b.now ≡ 79) }
-{
-    text(out, b"in common: ")?;
+fn compare(out: &mut impl Write, a: &[u64; 79], b: &[u64; 79]) -> io::Result<()> {
+    write!(out, "in common: ")?;
     report(out, combined::and_count(a, b), combined::and_span(a, b))?;
-    text(out, b"their XOR: ")?;
+    write!(out, "their XOR: ")?;
     report(out, combined::xor_count(a, b), combined::xor_span(a, b))
 }
 
 // One row: {0..15} with 2048, asked and flipped.
-fn one(out: &mut impl Write, a: &mut [u64]) -> io::Result<()>
-    requires { length a.old ≡ 79 }
-{
+fn one(out: &mut impl Write, a: &mut [u64; 79]) -> io::Result<()> {
     fill(a);
-    text(out, b"{0..15} with 2048: ")?;
+    write!(out, "{{0..15}} with 2048: ")?;
     measure(out, a)?;
     ask(out, a, 15)?;
     ask(out, a, 2047)?;
@@ -119,25 +81,21 @@ fn one(out: &mut impl Write, a: &mut [u64]) -> io::Result<()>
 }
 
 // Another beside it: {2047, 2048}, compared and XORed in.
-fn two(out: &mut impl Write, a: &mut [u64], b: &mut [u64]) -> io::Result<()>
-    requires { (length a.old ≡ 79) × (length b.old ≡ 79) }
-{
+fn two(out: &mut impl Write, a: &mut [u64; 79], b: &mut [u64; 79]) -> io::Result<()> {
     flip(out, b, 2047)?;
     flip(out, b, 2048)?;
     compare(out, a, b)?;
     write::xor_in(a, b);
-    text(out, b"XORed in: ")?;
+    write!(out, "XORed in: ")?;
     measure(out, a)
 }
 
 // A row as keys, and cleared.
-fn three(out: &mut impl Write, a: &mut [u64], keys: &mut [u32]) -> io::Result<()>
-    requires { (length a.old ≡ 79) × (length keys.old ≡ 5056) }
-{
+fn three(out: &mut impl Write, a: &mut [u64; 79], keys: &mut [u32; 5056]) -> io::Result<()> {
     let n = keys::to_keys(a, keys);
-    list(out, keys, n)?;
+    list(out, &keys[..n])?;
     write::clear_all(a);
-    text(out, b"cleared: ")?;
+    write!(out, "cleared: ")?;
     measure(out, a)
 }
 
