@@ -2,13 +2,41 @@
 use mathlib.Core.Path.{◌≡◌, refl, sym, ◌∙◌}
 use mathlib.Core.Logic.{◌⊎◌, inl, inr}
 use mathlib.Core.Bool.{Bool, true, false}
-use mathlib.Core.List.{List, [], ◌∷◌}
+use mathlib.Core.List.{List, [], ◌∷◌, map}
 use Prim.Native.Nat.{ℕ}
+use mathlib.Core.Bool.{◌&&◌}
+use Rattle.std.specs.List.{list_all}
+use Rattle.std.proofs.lemmas.List.Folds.{list_all-map}
 use native.Mathlib.Omega.{arith}
 use borrow.Author.Tests.{eq-eqb, ne_eqb}
 use Rattle.words.specs.Sets.{pick}
 use Rattle.words.proofs.Cases.{same_or_not, two_tests}
 use Rattle.answers.specs.Judging.{Judged, ranged, sounded, verdict, earlier}
+
+-- sets are in range, and sound, where all are
+pub ranged_all : (sets : List Judged) (n : ℕ) → ranged sets n ≡ pick (list_all (λ s. s.in_range) sets) n 1
+unfolding ranged
+ranged_all [] n = refl
+ranged_all (s ∷ sets) n = rw (ranged_all sets n) (go s.in_range)
+  where
+    go : (r : Bool) → pick r (pick (list_all (λ s. s.in_range) sets) n 1) 1 ≡ pick (r && list_all (λ s. s.in_range) sets) n 1
+    go true = refl
+    go false = refl
+
+pub sounded_all : (sets : List Judged) (n : ℕ) → sounded sets n ≡ pick (list_all (λ s. s.sound) sets) n 2
+unfolding sounded
+sounded_all [] n = refl
+sounded_all (s ∷ sets) n = rw (sounded_all sets n) (go s.sound)
+  where
+    go : (r : Bool) → pick r (pick (list_all (λ s. s.sound) sets) n 2) 2 ≡ pick (r && list_all (λ s. s.sound) sets) n 2
+    go true = refl
+    go false = refl
+
+pub verdict_all : {A : Type 0} (judged : A → Judged) (sets : List A)
+    → verdict (map judged sets) ≡ pick (list_all (λ s. (judged s).in_range) sets) (pick (list_all (λ s. (judged s).sound) sets) 0 2) 1
+unfolding verdict
+verdict_all judged sets =
+    ranged_all (map judged sets) _ ∙ rw (sounded_all (map judged sets) 0, list_all-map (λ s. s.in_range) judged sets, list_all-map (λ s. s.sound) judged sets)
 
 -- a set that nothing refuses
 pub record Passed (s : Judged) : Type 0 where

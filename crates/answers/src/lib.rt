@@ -1,24 +1,31 @@
-// What every call answers: a number of document 01's table, and a value.
+// What every call answers: what it was asked for, or why it can't be served.
 #![tactic(auto)]
 
-pub mod give;
+ghost use Rattle.std.specs.Prelude.{◌≡◌};
+ghost use Rattle.answers.specs.Answers.{number};
+
 pub mod judge;
 
-// Served, and the refusals of document 01.
-pub const SERVED: u8 = 0;
-// A lent length is outside the stated range.
-pub const LENGTH: u8 = 1;
-// A header and its buffers aren't sound.
-pub const UNSOUND: u8 = 2;
-// The index is above 4,294,967,295.
-pub const INDEX: u8 = 3;
-// The state that the rules give is dense with a span above W.
-pub const SPAN: u8 = 4;
-// The state that the rules give has more keys than room.
-pub const ROOM: u8 = 5;
+// The refusals of document 01's table, in the order in which they are checked. Each has the table's number.
+#[derive(Clone, Copy, Debug, PartialEq, Eq, PartialOrd, Ord)]
+pub enum Refusal {
+    // A lent length is outside the stated range.
+    Length = 1,
+    // A header and its buffers aren't sound.
+    Unsound = 2,
+    // The index is above 4,294,967,295.
+    Index = 3,
+    // The state that the rules give is dense with a span above W.
+    Span = 4,
+    // The state that the rules give has more keys than room.
+    Room = 5,
+}
 
-#[derive(Clone, Copy)]
-pub struct Answer {
-    pub number: u8,
-    pub value: u64,
+impl From<Refusal> for u8 {
+    ghost from_gives = { λ refusal result. result ≡ number refusal };
+
+    #[tactic(auto, unfolding(crate::specs::Answers::number))]
+    fn from(refusal: Refusal) -> u8 {
+        refusal as u8
+    }
 }
