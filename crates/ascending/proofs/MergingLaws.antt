@@ -8,12 +8,14 @@ use Prim.Native.Nat.{ℕ, suc, ◌+◌, ◌-◌, ◌≤◌, ◌<◌, min}
 use native.Mathlib.Numerals.{add-one}
 use native.Mathlib.Omega.{arith}
 use lib.Dec.{ltb}
-use lib.ListN.{length, get_or, take, drop, set, length-set, length-append, length-take, length-drop, drop_of_length-le, take-append-drop}
+use lib.ListN.{length, get_or, take, drop, set, length-append, length-take, length-drop, drop_of_length-le, take-append-drop}
 use lib.Seq.{sets, length-sets, sets-eq, drop-cons, drop-drop, take-suc, take-suc-set, take-set-le, take_at}
 use borrow.Author.Tests.{eq-eqb, ne_eqb, lt-ltb, le-ltb}
 use Rattle.words.specs.Sets.{pick, keep, against, merge}
 use Rattle.words.proofs.Cases.{three_ways, below_or_not}
-use Rattle.words.proofs.LoopLaws.{tail, rest-is}
+use Rattle.std.proofs.Common.{map}
+use Rattle.std.proofs.lemmas.List.{length-map, map-set, map-append, take-map, drop-map}
+use Rattle.ascending.proofs.ValueLaws.{value-at}
 use Rattle.ascending.specs.declared.merging.Kept.{Kept}
 use Rattle.ascending.specs.declared.merging.Places.{Places}
 use Rattle.ascending.specs.Merging.{merged, past, keeps, stepped}
@@ -119,36 +121,67 @@ past_front true m n x rest out e h f =
     let next = next-is m n x rest e in rw (add-one n, take-suc-set out n x h, take-suc m n 0 next.0, f, next.1)
 past_front false m n x rest out e h f = let z : n + 0 ≡ n = omega arith in rw z (take-set-le n out n x (omega arith) ∙ f)
 
+-- at the start nothing has been passed
 pub heads_begin : {kept : Kept} {l r : List ℕ} → Heads kept l r (record { left = 0; right = 0; kept = 0 })
 heads_begin = record { left = omega arith; right = omega arith; few = omega arith; within = omega arith; rest = refl }
 
-module _ {kept : Kept} {l r : List ℕ} {at next : Places} (h : Heads kept l r at) (p : at.left < length l) (q : at.right < length r)
-    (e : next ≡ beyond kept l r at) where
-  pub heads-next : Heads kept l r next
+-- the items at the two places of two rows, and the places past the lower one
+pub record Turn {A : Type 0} (value : A → ℕ) (kept : Kept) (a b : List A) (at next : Places) : Type 0 where
+  pub x : A
+  pub y : A
+  pub left : at.left < length a
+  pub right : at.right < length b
+  pub x-is : x ≡ get_or a at.left x
+  pub y-is : y ≡ get_or b at.right y
+  pub next-is : next ≡ stepped kept at (ltb (value x) (value y)) (ltb (value y) (value x))
+
+module _ {A : Type 0} {value : A → ℕ} {kept : Kept} {a b : List A} {at next : Places} (h : Heads kept (map value a) (map value b) at)
+    (t : Turn value kept a b at next) where
+  here-left : get_or (map value a) at.left 0 ≡ value t.x
+  here-left = value-at value a at.left t.x t.left t.x-is
+
+  here-right : get_or (map value b) at.right 0 ≡ value t.y
+  here-right = value-at value b at.right t.y t.right t.y-is
+
+  within-left : at.left < length (map value a)
+  within-left = rw length-map t.left
+
+  within-right : at.right < length (map value b)
+  within-right = rw length-map t.right
+
+  next_beyond : next ≡ beyond kept (map value a) (map value b) at
+  next_beyond = rw (here-left, here-right) t.next-is
+
+  pub heads-next : Heads kept (map value a) (map value b) next
   unfolding stepped
   heads-next =
+      let l : List ℕ = map value a in let r : List ℕ = map value b in
       let x : ℕ = get_or l at.left 0 in let y : ℕ = get_or r at.right 0 in
-      let k = past-rest (keeping kept l r at) (merged kept l r) at.kept _ _ (h.rest ∙ merged-at kept l r at p q) h.within in
-      rw e (record {
-        left = omega (arith, past_bounds at.left (not (ltb y x)));
-        right = omega (arith, past_bounds at.right (not (ltb x y)));
+      let k = past-rest (keeping kept l r at) (merged kept l r) at.kept _ _ (h.rest ∙ merged-at kept l r at within-left within-right) h.within in
+      rw next_beyond (record {
+        left = omega (arith, within-left, past_bounds at.left (not (ltb y x)));
+        right = omega (arith, within-right, past_bounds at.right (not (ltb x y)));
         few = omega (arith, h.few, beyond-on kept l r at, past_bounds at.kept (keeping kept l r at));
         within = k.0;
         rest = k.1;
       })
 
-  pub heads-less : length l + length r - (next.left + next.right) < length l + length r - (at.left + at.right)
-  heads-less = rw e (omega (arith, beyond-on kept l r at))
+  pub heads-less : length a + length b - (next.left + next.right) < length a + length b - (at.left + at.right)
+  heads-less = rw next_beyond (omega (arith, beyond-on kept (map value a) (map value b) at, t.left, t.right))
 
 -- ---- where one of the two lists has ended
 
 -- what is left of a list from a place on, if it is kept
-abbrev pub rest_of : Bool → List ℕ → ℕ → List ℕ
-rest_of kept l n = pick kept (tail l n) []
+abbrev pub rest_of : {A : Type 0} → Bool → List A → ℕ → List A
+rest_of kept l n = pick kept (drop n l) []
 
-length_rest : (kept : Bool) (l : List ℕ) (n : ℕ) → length (rest_of kept l n) ≡ pick kept (length l - n) 0
-length_rest true l n = simp (length-take, length-drop) (omega arith)
+length_rest : {A : Type 0} (kept : Bool) (l : List A) (n : ℕ) → length (rest_of kept l n) ≡ pick kept (length l - n) 0
+length_rest true l n = length-drop n l
 length_rest false l n = refl
+
+map_rest : {A : Type 0} (value : A → ℕ) (kept : Bool) (l : List A) (n : ℕ) → map value (rest_of kept l n) ≡ rest_of kept (map value l) n
+map_rest value true l n = sym (drop-map value n l)
+map_rest value false l n = refl
 
 pick-le : (t : Bool) (n : ℕ) → pick t n 0 ≤ n
 pick-le true n = omega arith
@@ -162,9 +195,9 @@ module _ {kept : Kept} {l r : List ℕ} {at : Places} (h : Heads kept l r at) wh
   pub heads-end : (length l ≤ at.left) ⊎ (length r ≤ at.right)
       → drop at.kept (merged kept l r) ≡ rest_of kept.left l at.left ++ rest_of kept.right r at.right
   heads-end (inl e) =
-      h.rest ∙ rw (rest-is l at.left, rest-is r at.right, drop_of_length-le l e, nothing kept.left) (merge-right _ _ _ (drop at.right r))
+      h.rest ∙ rw (drop_of_length-le l e, nothing kept.left) (merge-right _ _ _ (drop at.right r))
   heads-end (inr e) =
-      h.rest ∙ rw (rest-is l at.left, rest-is r at.right, drop_of_length-le r e, nothing kept.right, append-nil) (merge-left _ _ _ (drop at.left l))
+      h.rest ∙ rw (drop_of_length-le r e, nothing kept.right, append-nil) (merge-left _ _ _ (drop at.left l))
 
   pub heads-count : (length l ≤ at.left) ⊎ (length r ≤ at.right)
       → at.kept + pick kept.left (length l - at.left) 0 + pick kept.right (length r - at.right) 0 ≡ length (merged kept l r)
@@ -173,65 +206,56 @@ module _ {kept : Kept} {l r : List ℕ} {at : Places} (h : Heads kept l r at) wh
 
 -- ---- a loop that writes the lower head, and goes on behind it where it is kept
 
--- what has been kept stands in front of `out`, which has the length of `old`
-pub record Heading (kept : Kept) (l r old : List ℕ) (at : Places) (out : List ℕ) : Type 0 where
+-- what has been kept stands in front of `out`
+pub record Heading (kept : Kept) (l r : List ℕ) (at : Places) (out : List ℕ) : Type 0 where
   pub heads : Heads kept l r at
-  pub same : length out ≡ length old
   pub front : take at.kept out ≡ take at.kept (merged kept l r)
 
-pub heading_begin : {kept : Kept} {l r old : List ℕ} → Heading kept l r old (record { left = 0; right = 0; kept = 0 }) old
-heading_begin = record { heads = heads_begin; same = refl; front = refl }
+pub heading_begin : {kept : Kept} {l r out : List ℕ} → Heading kept l r (record { left = 0; right = 0; kept = 0 }) out
+heading_begin = record { heads = heads_begin; front = refl }
 
-module _ {kept : Kept} {l r old out : List ℕ} {at : Places} (w : Heading kept l r old at out) where
-  pub heading-next : {next : Places} {x : ℕ} → length l + length r ≤ length old → at.left < length l → at.right < length r
-      → x ≡ lower l r at → next ≡ beyond kept l r at → Heading kept l r old next (set out at.kept x)
-  unfolding stepped
-  heading-next {x = x} room p q v e =
-      let h : Heads kept l r at = w.heads in
-      let here : at.kept < length out = omega (arith, h.few, w.same) in
-      record {
-        heads = heads-next h p q e;
-        same = length-set out at.kept x ∙ w.same;
-        front = rw (e, v) (past_front (keeping kept l r at) (merged kept l r) at.kept _ _ out (h.rest ∙ merged-at kept l r at p q) here w.front);
-      }
-
-  pub heading-end : (length l ≤ at.left) ⊎ (length r ≤ at.right) → Headed kept l r at out
-  heading-end e = record { heads = w.heads; ended = e; front = w.front }
+pub heading-next : {A : Type 0} {value : A → ℕ} {kept : Kept} {a b : List A} (out : List A) {at next : Places} {z : A}
+    → Heading kept (map value a) (map value b) at (map value out) → (t : Turn value kept a b at next)
+    → length a + length b ≤ length out → value z ≡ min (value t.x) (value t.y)
+    → Heading kept (map value a) (map value b) next (map value (set out at.kept z))
+unfolding stepped
+heading-next {value = value} {kept} {a} {b} out {at} {z = z} w t room v =
+    let l : List ℕ = map value a in let r : List ℕ = map value b in
+    let h : Heads kept l r at = w.heads in
+    let here : at.kept < length (map value out) = rw length-map (omega (arith, t.left, t.right, h.few)) in
+    rw map-set (record {
+      heads = heads-next h t;
+      front = rw (next_beyond h t, v, ← here-left h t, ← here-right h t)
+          (past_front (keeping kept l r at) (merged kept l r) at.kept _ _ (map value out) (h.rest ∙ merged-at kept l r at (within-left h t) (within-right h t)) here w.front);
+    })
 
 -- ---- both rests appended
 
 -- what is written from place n on stands behind the first n
-front_sets : (vs l : List ℕ) (n : ℕ) → n + length vs ≤ length l → take (n + length vs) (sets l n vs) ≡ take n l ++ vs
+front_sets : {A : Type 0} (vs l : List A) (n : ℕ) → n + length vs ≤ length l → take (n + length vs) (sets l n vs) ≡ take n l ++ vs
 front_sets vs l n h =
     rw (sets-eq vs l n h) (take_at (take n l ++ vs) (drop (n + length vs) l) (n + length vs) (simp (length-append, length-take) (omega arith)))
 
-front_twice : (p q l : List ℕ) (n : ℕ) → n + length p + length q ≤ length l
+front_twice : {A : Type 0} (p q l : List A) (n : ℕ) → n + length p + length q ≤ length l
     → take (n + length p + length q) (sets (sets l n p) (n + length p) q) ≡ take n l ++ (p ++ q)
 front_twice p q l n h =
     front_sets q (sets l n p) (n + length p) (simp length-sets h) ∙ rw (front_sets p l n (omega arith)) (append_assoc (take n l) p q)
 
-module _ {kept : Kept} {l r out : List ℕ} {at : Places} {n : ℕ} (w : Headed kept l r at out) (room : length l + length r ≤ length out)
-    (e : n ≡ at.kept + length (rest_of kept.left l at.left)) where
-  pub headed-room : n + length (tail r at.right) ≤ length out
-  headed-room =
-      let h : Heads kept l r at = w.heads in
-      omega (
-        arith,
-        h.left,
-        h.right,
-        h.few,
-        length_rest kept.left l at.left,
-        pick-le kept.left (length l - at.left),
-        length_rest true r at.right,
-      )
-
-  pub headed-end : {m : ℕ} {mid last : List ℕ} → mid ≡ sets out at.kept (rest_of kept.left l at.left)
-      → m ≡ n + length (rest_of kept.right r at.right) → last ≡ sets mid n (rest_of kept.right r at.right)
-      → (m ≡ length (merged kept l r)) × (take m last ≡ merged kept l r)
-  headed-end d f g =
-      let p : List ℕ = rest_of kept.left l at.left in let q : List ℕ = rest_of kept.right r at.right in
-      let k = length_rest kept.left l at.left in let j = length_rest kept.right r at.right in
-      let fits : at.kept + length p + length q ≤ length out = omega (arith, heads-few w.heads) in (
-        omega (arith, heads-count w.heads w.ended),
-        rw (g, f, d, e, front_twice p q out at.kept fits, w.front, ← heads-end w.heads w.ended) (take-append-drop at.kept (merged kept l r)),
-      )
+pub headed-end : {A : Type 0} (value : A → ℕ) {kept : Kept} (a b out : List A) {at : Places} {n m : ℕ} {mid last : List A}
+    → Headed kept (map value a) (map value b) at (map value out) → length a + length b ≤ length out
+    → n ≡ at.kept + length (rest_of kept.left a at.left) → mid ≡ sets out at.kept (rest_of kept.left a at.left)
+    → m ≡ n + length (rest_of kept.right b at.right) → last ≡ sets mid n (rest_of kept.right b at.right)
+    → (m ≡ length (merged kept (map value a) (map value b))) × (take m (map value last) ≡ merged kept (map value a) (map value b))
+headed-end value {kept} a b out {at} w room e d f g =
+    let l : List ℕ = map value a in let r : List ℕ = map value b in
+    let p = rest_of kept.left a at.left in let q = rest_of kept.right b at.right in
+    let k = length_rest kept.left a at.left in let j = length_rest kept.right b at.right in
+    let few : at.kept + pick kept.left (length a - at.left) 0 + pick kept.right (length b - at.right) 0 ≤ length a + length b =
+    simp length-map at (heads-few w.heads) in
+    let all : at.kept + pick kept.left (length a - at.left) 0 + pick kept.right (length b - at.right) 0 ≡ length (merged kept l r) =
+    simp length-map at (heads-count w.heads w.ended) in
+    let fits : at.kept + length p + length q ≤ length out = omega arith in (
+      omega arith,
+      rw (g, f, d, e, take-map, front_twice p q out at.kept fits, map-append, map-append, map_rest value kept.left, map_rest, ← take-map, w.front, ← heads-end w.heads w.ended)
+          (take-append-drop at.kept (merged kept l r)),
+    )

@@ -1,4 +1,4 @@
--- Ascending order: its test, its parts, and what the scans for order and for equality keep. Assumes nothing.
+-- Ascending order: its test, its parts, and what the scans for order and for equality come to. Assumes nothing.
 use mathlib.Core.Path.{◌≡◌, refl, sym, ap, ◌∙◌}
 use mathlib.Core.Logic.{⊎_elim}
 use mathlib.Core.Bool.{Bool, true, false, not, ◌&&◌, ◌||◌, and-true, and-false, and_assoc}
@@ -6,16 +6,15 @@ use mathlib.Core.List.{List, [], ◌∷◌}
 use Prim.Native.Nat.{ℕ, zero, suc, ◌+◌, ◌-◌, ◌≤◌, ◌<◌}
 use native.Mathlib.Numerals.{add-one}
 use native.Mathlib.Omega.{arith}
-use lib.Bits.{bit_or, bit_xor}
 use lib.Dec.{eqb, leb, ltb}
+use Rattle.std.proofs.Common.{map, fold}
+use Rattle.std.specs.List.{zip}
 use lib.ListN.{length, get_or, take, drop, drop_of_length-le}
 use lib.Seq.{drop-cons}
 use borrow.Author.Tests.{lt-ltb, le-ltb, lt-leb, le-leb, ltb-true}
 use Rattle.words.specs.Sets.{From, Ascending, same}
 use Rattle.words.proofs.Cases.{below_or_not, and_parts, two_tests}
 use Rattle.words.proofs.SetLaws.{from_le}
-use Rattle.words.proofs.BitLaws.{or_zero, xor-zero}
-use Rattle.words.proofs.LoopLaws.{tail, rest-is}
 use Rattle.ascending.specs.Order.{above, ascends}
 
 -- ---- the test
@@ -60,9 +59,6 @@ from-drop b zero l f = f
 from-drop b (suc n) [] f = tt
 from-drop b (suc n) (x ∷ l) f = from-drop b n l (from_le b (suc x) l f.1 (omega arith))
 
-pub from_tail : (b n : ℕ) (l : List ℕ) → From b l → From b (tail l n)
-from_tail b n l f = rw (rest-is l n) (from-drop b n l f)
-
 -- ---- the scan of a list's order
 
 pub not-above : (x y : ℕ) → leb y x ≡ not (ltb x y)
@@ -95,29 +91,7 @@ pub ordered_end : {l : List ℕ} {fails : Bool} {i : ℕ} → Ordered l fails i 
 unfolding above
 ordered_end {l} {fails} v h = sym (and-true (not fails)) ∙ (rw (drop_of_length-le l h) at v.is)
 
--- ---- the scan of two lists' equality
-
--- the OR of the differences so far, and what is left of the two lists
-pub record Matched (a b : List ℕ) (any i : ℕ) : Type 0 where
-  pub long : length a ≡ length b
-  pub is : (eqb any 0 && same (drop i a) (drop i b)) ≡ same a b
-
-pub matched_begin : {a b : List ℕ} → length a ≡ length b → Matched a b 0 0
-matched_begin e = record { long = e; is = refl }
-
-pub matched-next : {a b : List ℕ} {any i : ℕ} → Matched a b any i → i < length a → Matched a b (bit_or any (bit_xor (get_or a i 0) (get_or b i 0))) (i + 1)
-unfolding same
-matched-next {a} {b} {any} {i} v h = record {
-  long = v.long;
-  is =
-      rw (add-one i, or_zero, xor-zero, and_assoc)
-      (rw (drop-cons a i 0 h, drop-cons b i 0 (omega (arith, v.long))) at v.is);
-}
-
-pub matched_end : {a b : List ℕ} {any i : ℕ} → Matched a b any i → length a ≤ i → eqb any 0 ≡ same a b
-unfolding same
-matched_end {a} {b} {any} {i} v h =
-    sym (and-true (eqb any 0)) ∙ (rw (drop_of_length-le a h, drop_of_length-le b {i = i} (omega (arith, v.long))) at v.is)
+-- ---- the test of two lists' equality
 
 -- lists of different lengths are not equal
 pub same_length : (a b : List ℕ) → (length a ≡ length b → ⊥) → same a b ≡ false
@@ -126,3 +100,17 @@ same_length [] [] n = absurd (n refl)
 same_length [] (y ∷ b) n = refl
 same_length (x ∷ a) [] n = refl
 same_length (x ∷ a) (y ∷ b) n = rw (same_length a b (λ e. n (ap suc e))) (and-false (eqb x y))
+
+-- lists of one length, pair by pair
+pub pairs-same : {A : Type 0} (value : A → ℕ) (a b : List A) → length a ≡ length b
+    → fold (λ (t : Bool) (p : A × A). t && eqb (value p.0) (value p.1)) true (zip a b) ≡ same (map value a) (map value b)
+unfolding same
+pairs-same {A} value a b e = go true a b e
+  where
+    go : (t : Bool) (a b : List A) → length a ≡ length b
+        → fold (λ (t : Bool) (p : A × A). t && eqb (value p.0) (value p.1)) t (zip a b) ≡ (t && same (map value a) (map value b))
+    go t [] [] e = sym (and-true t)
+    go t [] (y ∷ b) e = absurd (omega arith)
+    go t (x ∷ a) [] e = absurd (omega arith)
+    go t (x ∷ a) (y ∷ b) e =
+        go (t && eqb (value x) (value y)) a b (omega arith) ∙ and_assoc t (eqb (value x) (value y)) (same (map value a) (map value b))

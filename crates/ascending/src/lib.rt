@@ -1,5 +1,11 @@
-// What ascending elements have in common at every width: what a search answers, and how a merge goes on.
+// Ascending elements in slices, at any width: searching, scanning, shifting, merging, storing.
 #![tactic(auto)]
 
+pub mod merge;
 pub mod merging;
+pub mod scan;
 pub mod search;
+pub mod shift;
+pub mod store;
+#[cfg(test)]
+mod tests;

@@ -3,7 +3,8 @@ ghost use Rattle.std.specs.Prelude.{true, false, ◌≡◌, ◌+◌, ◌-◌, �
 ghost use Rattle.words.specs.Sets.{pick};
 ghost use Rattle.ascending.specs.Merging.{past, keeps, stepped};
 
-// Whether a merge keeps the elements of the left list only, of the right one only, and of both.
+// Whether a merge keeps the elements of the left list only, of the right one only, and of both. Flags, which are added up: a
+// closure that is asked at each pair of heads would hang a branch on them.
 #[derive(Clone, Copy)]
 pub struct Kept {
     pub left: bool,
@@ -12,7 +13,7 @@ pub struct Kept {
 }
 
 // How far a merge has come in the left list and in the right one, and how many elements it has kept.
-#[derive(Clone, Copy)]
+#[derive(Clone, Copy, Default)]
 pub struct Places {
     pub left: usize,
     pub right: usize,
@@ -41,24 +42,30 @@ pub fn intersection() -> Kept
 }
 
 // A place, or the next one where it has been passed.
+#[tactic(auto, unfolding(crate::specs::Merging::past))]
 fn past(place: usize, passed: bool) -> usize
     requires { place + 1 < 2 ^ 64 }
     ensures { result ≡ past place passed }
 {
-    if passed { place + 1 } else { place }
+    place + usize::from(passed)
 }
 
+#[tactic(auto, unfolding(crate::specs::Merging::keeps))]
 fn keeps(kept: Kept, less: bool, more: bool) -> bool
     ensures { result ≡ keeps kept less more }
 {
     if less {
-        return kept.left;
+        kept.left
+    } else if more {
+        kept.right
+    } else {
+        kept.both
     }
-    if more { kept.right } else { kept.both }
 }
 
 // Past the lower of two heads, or past both where they are equal: `less` says that the left head is the lower one, `more`
 // that the right one is.
+#[tactic(auto, unfolding(crate::specs::Merging::stepped))]
 pub fn step(kept: Kept, at: Places, less: bool, more: bool) -> Places
     requires { (at.left + 1 < 2 ^ 64) × (at.right + 1 < 2 ^ 64) × (at.kept + 1 < 2 ^ 64) }
     ensures { result ≡ stepped kept at less more }

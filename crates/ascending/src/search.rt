@@ -1,36 +1,37 @@
-// What a search among ascending elements answers.
+// Searching ascending elements: `Ok` names the place where an element stands, `Err` the one where it would be put.
 ghost use Rattle.std.specs.Prelude.{◌≡◌, ◌+◌, ◌<◌, ◌^◌};
-ghost use Rattle.ascending.specs.Search.{place_of, later, told};
+ghost use Rattle.words.specs.Sets.{Ascending};
+ghost use Rattle.ascending.specs.Search.{found, place_of, later};
 
-use answers::Answer;
-use answers::give::answer;
+use words::number::Number;
 
-// An element stands at a place, or is absent and would stand there.
-#[derive(Clone, Copy)]
-pub enum Found {
-    At(usize),
-    Absent(usize),
+// Where an element stands, or where it would be put: in the half that can hold it, the middle one set aside.
+pub fn lookup<T: Number>(elements: &[T], element: T) -> Result<usize, usize>
+    requires { Ascending (T.values elements.now) }
+    ensures { result ≡ found (T.value element) (T.values elements.now) }
+{
+    if elements.is_empty() {
+        return Err(0);
+    }
+    let middle = elements.len() / 2;
+    let there = elements[middle];
+    if there == element {
+        return Ok(middle);
+    }
+    if element < there {
+        return lookup(&elements[..middle], element);
+    }
+    let start = middle + 1;
+    shifted(lookup(&elements[start..], element), start)
 }
 
 // What a search in the part from `start` on answers, as an answer of the whole.
 #[tactic(auto, unfolding(crate::specs::Search::place_of, crate::specs::Search::later))]
-pub fn shifted(found: Found, start: usize) -> Found
+fn shifted(found: Result<usize, usize>, start: usize) -> Result<usize, usize>
     requires { start + place_of found < 2 ^ 64 }
     ensures { result ≡ later start found }
 {
-    match found {
-        Found::At(place) => Found::At(start + place),
-        Found::Absent(place) => Found::Absent(start + place),
-    }
-}
-
-// What a search's answer comes to as an answer: whether the element is there.
-#[tactic(auto, unfolding(crate::specs::Search::told))]
-pub fn told(found: Found) -> Answer
-    ensures { result ≡ told found }
-{
-    let Found::At(_) = found else {
-        return answer(0);
-    };
-    answer(1)
+    found
+        .map(|place| start + place)
+        .map_err(|place| start + place)
 }
