@@ -5,8 +5,7 @@ use Prim.Native.Nat.{ℕ}
 use lib.ListN.{replicate}
 use Rattle.words.specs.Sets.{has, merge}
 use Rattle.words.specs.Words.{members_from, zeros, words_of}
-use Rattle.answers.specs.declared.Answer.{Answer}
-use Rattle.answers.specs.Answers.{truth}
+use Rattle.answers.specs.Answers.{Answer, truth}
 use Rattle.bitset.specs.Rules.{inserted, removed, cleared, xored, shared, unshared, flipped, entries, equal}
 use Rattle.bitset.specs.Calls.{Bytes, Outcome, in_range, sound, view, judged, preparing, inserting, toggling, removing, clearing, xoring, xoring_shared, xoring_unshared, flipping, flipping_shared, containing, counting_entries, comparing}
 

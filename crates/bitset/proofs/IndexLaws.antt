@@ -1,12 +1,15 @@
 -- Lists of indices: what is left of one where a loop stands, the entries that a test takes, and what flipping a list makes of the
 -- span and of the members. Assumes nothing.
 use mathlib.Core.Path.{◌≡◌, refl, ap, ap₂, ◌∙◌}
-use mathlib.Core.Bool.{Bool, true, false}
+use mathlib.Core.Bool.{Bool, true, false, cond}
 use mathlib.Core.List.{List, [], ◌∷◌}
 use Prim.Native.Nat.{ℕ, zero, suc, ◌+◌, ◌*◌, ◌/◌, ◌≤◌, ◌<◌, max}
 use native.Mathlib.Numerals.{add-one}
 use native.Mathlib.Omega.{arith}
-use lib.ListN.{length, get_or, drop}
+use lib.ListN.{length, get_or, drop, drop_of_length-le}
+use Rattle.std.specs.Prelude.{count_by}
+use Rattle.std.proofs.lemmas.List.Recursion.{is_count_by}
+use Rattle.words.proofs.SetLaws.{below_at}
 use lib.Seq.{drop-cons}
 use Rattle.words.specs.Sets.{keep, Below}
 use Rattle.words.specs.Words.{members, flip, flips}
@@ -37,6 +40,15 @@ unfolding entries
 entries-same p q [] h = refl
 entries-same p q (i ∷ l) h = ap₂ (λ (t : Bool) (r : List ℕ). keep t i r) (h i) (entries-same p q l h)
 
+-- std's name for their number
+pub length-entries : (takes : ℕ → Bool) (l : List ℕ) → length (entries takes l) ≡ count_by takes l
+unfolding entries
+length-entries takes l = is_count_by (λ k. length (entries takes k)) takes refl (λ x k. kept (takes x) x (entries takes k)) l
+  where
+    kept : (t : Bool) (x : ℕ) (k : List ℕ) → length (keep t x k) ≡ cond t (1 + length k) (length k)
+    kept true x k = omega arith
+    kept false x k = refl
+
 -- ---- the span
 
 pub reached_most : (s : ℕ) (l : List ℕ) → s ≤ reached s l
@@ -64,3 +76,6 @@ members-flipped ws [] s h = refl
 members-flipped ws (i ∷ l) s h =
     members-flipped (flip ws i) l (max s (i / 64 + 1)) (rw (length-flips ws (i ∷ [])) h.1)
     ∙ ap (λ (m : List ℕ). (flipped l (record { span = max s (i / 64 + 1); members = m })).members) (members-flip ws i (omega (arith, h.0)))
+
+-- what a loop over a list of indices keeps
+pub ruleset listed = (drop-next, drop_of_length-le, below_at, entries_below, length-flips)

@@ -1,113 +1,90 @@
--- What the calls' definitions come to, path by path: which sets are sound, what is refused, and what is written. Assumes nothing.
+-- What the calls are proved by: words that hold the members of a state are its words, and the front of sound words up to the span
+-- has all members. Assumes nothing.
 use mathlib.Core.Path.{◌≡◌, refl, sym, ap₂, ◌∙◌}
-use mathlib.Core.Bool.{Bool, true, false}
-use mathlib.Core.List.{List, [], ◌∷◌}
-use Prim.Native.Nat.{ℕ, ◌≤◌, ◌<◌}
-use lib.Dec.{leb}
-use lib.ListN.{length, drop}
-use borrow.Author.Tests.{eq-eqb, ne_eqb, le-leb, lt-leb, leb-true}
-use Rattle.words.specs.Sets.{pick}
-use Rattle.words.specs.Words.{members, words_of, zeros, Words}
-use Rattle.words.proofs.Cases.{and_parts, two_tests}
-use Rattle.words.proofs.MemberLaws.{words-members}
-use Rattle.answers.specs.Judging.{Judged, sounded, verdict, earlier}
-use Rattle.answers.proofs.Judging.{Passed, ranged-is, sounded-is, passed_none, none_passed, more_none, none_more}
+use mathlib.Core.Bool.{true}
+use mathlib.Core.List.{List, [], ◌++◌}
+use Prim.Native.Nat.{ℕ, ◌/◌, ◌≤◌}
+use lib.Dec.{eqb}
+use lib.ListN.{length, get_or, take, drop, replicate, length-take}
+use mir.Val.{Fits}
+use mir.Syntax.{w64}
+use borrow.Author.Tests.{le-leb}
+use Rattle.words.specs.Sets.{same, remove}
+use Rattle.words.specs.Words.{members, count, exact, zeros, Words, words_of, xors}
+use Rattle.words.proofs.SetLaws.{remove_absent, same-difference}
+use Rattle.words.proofs.RowLaws.{at-past, words_from, words-xors, zeros-append, zeros-replicate, length-into, length-xors, length-ands}
+use Rattle.words.proofs.MemberLaws.{ascending-members, has-members, words-members, members-set, members-flip, members-clear, members-xors, members-ands, members-into, members-none, members_front, zeros-none, zeros_front, exact_empty}
 use Rattle.bitset.specs.declared.BitSet.{BitSet}
-use Rattle.bitset.specs.declared.Reply.{Reply}
-use Rattle.bitset.specs.Rules.{State}
-use Rattle.bitset.specs.Calls.{Bytes, in_range, sound, encode, judged, verdict_with, refused, result, bytes_of, left, Sound}
+use Rattle.bitset.specs.Calls.{in_range, sound, judged, bytes_of, Sound}
+
+-- what the type of a slice says of its words
+abbrev pub Fit : List ℕ → Type 0
+Fit ws = (k : ℕ) → Fits w64 (get_or ws k 0)
+
+words_fit : (ws : List ℕ) → Fit ws → Words ws
+words_fit ws f = words_from ws (λ k. (f k).fits)
 
 -- ---- judging
 
--- one set passes exactly when it is sound
-pub sound-passed : {set : BitSet} {ws : List ℕ} → Sound set ws → Passed (judged (bytes_of set ws))
-unfolding judged in_range sound bytes_of
-sound-passed {set} {ws} h =
-    record { in_range = le-leb (length ws) 8192 h.few; sound = rw (le-leb set.span (length ws) h.within) h.beyond }
+-- nothing refuses a sound set
+pub judged-in_range : (set : BitSet) (ws : List ℕ) → Sound set ws → (judged (bytes_of set ws)).in_range ≡ true
+unfolding judged in_range bytes_of
+judged-in_range set ws h = le-leb (length ws) 8192 h.few
 
-pub passed-sound : {set : BitSet} {ws : List ℕ} → Passed (judged (bytes_of set ws)) → Sound set ws
-unfolding judged in_range sound bytes_of
-passed-sound {set} {ws} p =
-    let parts = and_parts (leb set.span (length ws)) (zeros (drop set.span ws)) p.sound in
-    record { few = leb-true (length ws) 8192 p.in_range; within = leb-true set.span (length ws) parts.0; beyond = parts.1 }
+pub judged-sound : (set : BitSet) (ws : List ℕ) → Sound set ws → (judged (bytes_of set ws)).sound ≡ true
+unfolding judged sound bytes_of
+judged-sound set ws h = rw (le-leb set.span (length ws) h.within) h.beyond
 
--- one set, two, and three are refused by nothing exactly when they are sound
-pub sound_none : {set : BitSet} {ws : List ℕ} → Sound set ws → verdict (judged (bytes_of set ws) ∷ []) ≡ 0
-sound_none h = passed_none (sound-passed h)
-
-pub none-sound : {set : BitSet} {ws : List ℕ} → verdict (judged (bytes_of set ws) ∷ []) ≡ 0 → Sound set ws
-none-sound e = passed-sound (none_passed _ e)
-
-pub two_none : {set other : BitSet} {ws os : List ℕ} → Sound set ws × Sound other os
-    → verdict (judged (bytes_of set ws) ∷ judged (bytes_of other os) ∷ []) ≡ 0
-two_none h = more_none _ (sound-passed h.0) (sound_none h.1)
-
-pub two_sound : {set other : BitSet} {ws os : List ℕ} → verdict (judged (bytes_of set ws) ∷ judged (bytes_of other os) ∷ []) ≡ 0
-    → Sound set ws × Sound other os
-two_sound e = let parts = none_more _ _ e in (passed-sound parts.0, none-sound parts.1)
-
-pub three_none : {target set other : BitSet} {ts ws os : List ℕ} → Sound target ts × Sound set ws × Sound other os
-    → verdict (judged (bytes_of target ts) ∷ judged (bytes_of set ws) ∷ judged (bytes_of other os) ∷ []) ≡ 0
-three_none h = more_none _ (sound-passed h.0) (two_none (h.1, h.2))
-
-pub three_sound : {target set other : BitSet} {ts ws os : List ℕ}
-    → verdict (judged (bytes_of target ts) ∷ judged (bytes_of set ws) ∷ judged (bytes_of other os) ∷ []) ≡ 0
-    → Sound target ts × Sound set ws × Sound other os
-three_sound e =
-    let parts = none_more _ _ e in
-    let operands = two_sound parts.1 in
-    (passed-sound parts.0, operands.0, operands.1)
-
--- a list of indices is judged by itself, too
-pub verdict-verdict_with : (l : List ℕ) (sets : List Judged) → verdict_with l sets ≡ earlier (pick (leb (length l) 16384) 0 1) (verdict sets)
-unfolding verdict verdict_with earlier
-verdict-verdict_with l sets =
-    let r = ranged-is sets in
-    let s = sounded-is sets in
-    rw (r.1 (pick (leb (length l) 16384) (sounded sets 0) 1), r.1 (sounded sets 0), s.1) (go (leb (length l) 16384) r.0 s.0)
-  where
-    go : (q t u : Bool) → pick t (pick q (pick u 0 2) 1) 1 ≡ earlier (pick q 0 1) (pick t (pick u 0 2) 1)
-    go true t u = two_tests (λ t u. pick t (pick u 0 2) 1 ≡ earlier 0 (pick t (pick u 0 2) 1)) refl refl refl refl t u
-    go false t u = two_tests (λ t u. pick t 1 1 ≡ earlier 1 (pick t (pick u 0 2) 1)) refl refl refl refl t u
-
--- ---- refusing
-
-pub refused-is : (n : ℕ) (b : Bytes) (v : ℕ) (s : State) → (n ≡ 0 → ⊥) → result n b v s ≡ refused n b
-unfolding result
-refused-is n b v s h = rw (ne_eqb n 0 h)
-
--- a span above W
-pub beyond-is : (n : ℕ) (b : Bytes) (v : ℕ) (s : State) → n ≡ 0 → length b.words < s.span → result n b v s ≡ refused 4 b
-unfolding result
-beyond-is n b v s e h = rw (eq-eqb n 0 e, lt-leb s.span (length b.words) h)
-
--- ---- serving
+-- ---- writing
 
 -- words that hold the members of a state are its words
-pub written_is : (new : List ℕ) (W : ℕ) (l : List ℕ) → Words new → length new ≡ W → members new ≡ l → new ≡ words_of W l
-written_is new W l h e m = sym (words-members new h) ∙ ap₂ words_of e m
+pub written_fit : (new : List ℕ) (W : ℕ) (l : List ℕ) → Fit new → length new ≡ W → members new ≡ l → new ≡ words_of W l
+written_fit new W l f e m = sym (words-members new (words_fit new f)) ∙ ap₂ words_of e m
 
--- what a served call leaves
-pub served-is : (n : ℕ) (set : BitSet) (ws : List ℕ) (v : ℕ) (s : State) (new : List ℕ) (span : ℕ)
-    → n ≡ 0 → s.span ≤ length ws → span ≡ s.span → Words new → length new ≡ length ws → members new ≡ s.members
-    → left (record { answer = record { number = 0; value = v }; set = record { span = span } }) new ≡ result n (bytes_of set ws) v s
-unfolding result encode bytes_of left
-served-is n set ws v s new span e h q f k m =
-    rw (eq-eqb n 0 e, le-leb s.span (length ws) h, q, written_is new (length ws) s.members f k m)
+-- past the words nothing is there to be removed
+pub remove_past : (ws : List ℕ) (i : ℕ) → length ws ≤ i / 64 → remove i (members ws) ≡ members ws
+remove_past ws i h = remove_absent i (members ws) (ascending-members ws) (has-members ws i ∙ at-past ws i h)
 
--- ---- from a reply to what the call leaves
+-- the front up to the span set to 0, before a rest that is 0
+pub members_cleared : (front rest : List ℕ) (n : ℕ) → front ≡ replicate n 0 → zeros rest ≡ true → members (front ++ rest) ≡ []
+members_cleared front rest n e z = members-none (front ++ rest) (rw (zeros-append front rest, e, z, zeros-replicate n))
 
-pub refused-left : (ws : List ℕ) (v : ℕ) (s : State) {set : BitSet} {n m : ℕ} {r : Reply} → n ≡ m → (n ≡ 0 → ⊥)
-    → r ≡ record { answer = record { number = n; value = 0 }; set = set } → left r ws ≡ result m (bytes_of set ws) v s
-unfolding left refused bytes_of
-refused-left ws v s {set} {n} {m} e h q = rw (q, e) (sym (refused-is m (bytes_of set ws) v s (λ z. h (e ∙ z))))
+-- ---- reading
 
-pub beyond-left : (ws : List ℕ) (v : ℕ) (s : State) {set : BitSet} {n : ℕ} {r : Reply} → n ≡ 0 → length ws < s.span
-    → r ≡ record { answer = record { number = 4; value = 0 }; set = set } → left r ws ≡ result n (bytes_of set ws) v s
-unfolding left refused bytes_of
-beyond-left ws v s {set} {n} e h q = rw q (sym (beyond-is n (bytes_of set ws) v s e h))
+pub zeros_fit : (ws : List ℕ) → Fit ws → zeros ws ≡ eqb (length (members ws)) 0
+zeros_fit ws f = zeros-none ws (words_fit ws f)
 
-pub served-left : (set : BitSet) (ws new : List ℕ) (s : State) {n v value span : ℕ} {r : Reply} → n ≡ 0 → s.span ≤ length ws → Words new
-    → length new ≡ length ws → members new ≡ s.members → value ≡ v → span ≡ s.span
-    → r ≡ record { answer = record { number = 0; value = value }; set = record { span = span } } → left r new ≡ result n (bytes_of set ws) v s
-served-left set ws new s {n} {v} e h f k m a p q = rw (q, a) (served-is n set ws v s new _ e h p f k m)
+pub count-members : (ws : List ℕ) → count ws ≡ length (members ws)
+unfolding count
+count-members ws = refl
+
+-- the XOR of two rows tells whether their members are the same
+pub exact-same : (a b : List ℕ) → Fit a → Fit b → eqb (exact (xors a b)) 0 ≡ same (members a) (members b)
+exact-same a b f g =
+    exact_empty (xors a b) (words-xors a b (words_fit a f) (words_fit b g))
+    ∙ rw (members-xors a b) (same-difference 0 (members a) (members b) (ascending-members a) (ascending-members b))
+
+-- what the calls over sets that are known to be sound are proved by
+pub ruleset calls = (
+  judged-in_range,
+  judged-sound,
+  written_fit,
+  has-members,
+  at-past,
+  members-set,
+  members-flip,
+  members-clear,
+  remove_past,
+  members_cleared,
+  members_front,
+  members-xors,
+  members-ands,
+  members-into,
+  length-xors,
+  length-ands,
+  length-into,
+  length-take,
+  zeros_fit,
+  count-members,
+  exact-same,
+)

@@ -1,15 +1,15 @@
 -- BitSet's bytes, and each call as a function from the bytes of the sets that it names to what it leaves: the first refusal of
 -- document 01's table that applies, with value 0 and everything as it was; or the answer, and the state that the rules give,
 -- written in the target's words. Assumes nothing.
-use Rattle.std.specs.Prelude.{Bool, true, not, ◌&&◌, List, [], ◌∷◌, ◌≡◌, ℕ, ◌≤◌, eqb, leb, length, drop, replicate}
+use Rattle.std.specs.Prelude.{Bool, true, not, ◌&&◌, List, [], ◌∷◌, ◌≡◌, ℕ, ◌≤◌, eqb, leb, length, drop, replicate, Result, Ok, Err}
 use Rattle.words.specs.Sets.{pick, has, intersection}
 use Rattle.words.specs.Words.{members, words_of, zeros}
-use Rattle.answers.specs.declared.Answer.{Answer}
-use Rattle.answers.specs.Answers.{truth, answered}
+use Rattle.answers.specs.declared.Refusal.{Refusal}
+use Rattle.answers.specs.Answers.{Answer, truth, answered, number}
 use Rattle.answers.specs.Judging.{Judged, ranged, sounded, verdict}
 use Rattle.bitset.specs.Rules.{State, inserted, toggled, removed, cleared, xored, shared, unshared, flipped, entries, equal}
 use Rattle.bitset.specs.declared.BitSet.{BitSet}
-use Rattle.bitset.specs.declared.Reply.{Reply}
+use Rattle.bitset.specs.declared.lent.Lent.{Lent}
 
 -- ---- bytes
 
@@ -148,9 +148,22 @@ comparing b o = answered (verdict (judged b ∷ judged o ∷ [])) (truth (equal 
 unfoldable pub bytes_of : BitSet → List ℕ → Bytes
 bytes_of set ws = record { span = set.span; words = ws }
 
--- what a call has left: its reply, and the words
-unfoldable pub left : Reply → List ℕ → Outcome
-left r ws = record { answer = r.answer; bytes = record { span = r.set.span; words = ws } }
+-- a set over its words, lent to be read
+abbrev pub lent_bytes : Lent → Bytes
+lent_bytes s = bytes_of s.set s.words.now
+
+-- what a served call gives, as the header and the value of its answer: yes or no beside the header, or the header alone
+abbrev pub with_truth : BitSet × Bool → BitSet × ℕ
+with_truth given = (given.0, truth given.1)
+
+abbrev pub alone : BitSet → BitSet × ℕ
+alone set = (set, 0)
+
+-- what a call has left of a set and its words. A refusal gives no header: the one that went in stays
+unfoldable pub left : {A : Type 0} → (A → BitSet × ℕ) → BitSet → Result A Refusal → List ℕ → Outcome
+unfolding number bytes_of
+left gives set (Ok given) ws = record { answer = record { number = 0; value = (gives given).1 }; bytes = bytes_of (gives given).0 ws }
+left gives set (Err refusal) ws = record { answer = record { number = number refusal; value = 0 }; bytes = bytes_of set ws }
 
 -- a set that is known to be sound
 pub record Sound (set : BitSet) (ws : List ℕ) : Type 0 where

@@ -1,204 +1,194 @@
 // The calls over sets that are known to be sound: no scan of whole buffers. Each meets the equation of the full call.
-ghost use Rattle.std.specs.Prelude.{◌≡◌, max, ◌≤◌, length};
-ghost use Rattle.bitset.specs.Calls.{Sound, bytes_of, left, inserting, toggling, removing, clearing, xoring, xoring_shared, xoring_unshared, flipping, flipping_shared, containing, counting, emptiness, counting_shared, counting_entries, comparing};
+#![tactic(auto, using(crate::proofs::Outcomes::calls), unfolding(crate::specs::Calls::inserting, crate::specs::Calls::toggling, crate::specs::Calls::removing, crate::specs::Calls::clearing, crate::specs::Calls::xoring, crate::specs::Calls::left, crate::specs::Calls::view, crate::specs::Rules::inserted, crate::specs::Rules::toggled, crate::specs::Rules::removed, crate::specs::Rules::cleared, crate::specs::Rules::xored))]
 
-use crate::replies::{refuse, serve};
-use crate::{BitSet, Reply, indices};
-use answers::Answer;
-use answers::give::{answer, truth};
+ghost use Rattle.std.specs.Prelude.{◌≡◌, max, leb, take, Ok, Err};
+ghost use Rattle.words.specs.Sets.{pick};
+ghost use Rattle.answers.specs.declared.Refusal.TheVariants.{Span};
+ghost use Rattle.answers.specs.Answers.{truth, answer_of};
+ghost use Rattle.bitset.specs.Calls.{Sound, bytes_of, lent_bytes, left, with_truth, alone, inserting, toggling, removing, clearing, xoring, xoring_shared, xoring_unshared, flipping, flipping_shared, containing, counting, emptiness, counting_shared, counting_entries, comparing};
+
+use crate::indices::Indices;
+use crate::{BitSet, Lent, indices};
+use answers::Refusal;
 use combined::{and_count, xor_span};
 use words::row;
-use words::row::{count_all, shorter, zero_from};
+use words::row::{count_all, zero_from};
 use words::word::place;
-use words::write::{clear_all, clear_at, flip_at, set_at, xor_in, xor_in_and, xor_in_xor};
+use words::write::{clear_at, flip_at, set_at, xor_in, xor_in_and, xor_in_xor};
 
-fn larger(x: usize, y: usize) -> usize
-    ensures { result ≡ max x y }
-{
-    if x < y { y } else { x }
+// A set that is known to be sound, to be read. What is written is a header with its words lent beside it, sound by a
+// `requires`: of a struct that holds a `&mut` a contract can say what stands behind it at the end only by the places of its
+// fields, which is no plainer.
+#[derive(Clone, Copy)]
+pub struct Checked<'a> {
+    pub lent: Lent<'a>,
+    pub ghost sound: { Sound lent.set lent.words.now },
 }
 
-pub fn insert(set: BitSet, words: &mut [u64], index: usize) -> Reply
-    requires { Sound set words.old }
-    ensures { left result words.new ≡ inserting index (bytes_of set words.old) }
+// The header with a span that reaches so far, where there are as many words.
+fn reaching(set: BitSet, span: usize, room: usize) -> Result<BitSet, Refusal>
+    ensures { result ≡ pick (leb span room) (Ok (record { span = max set.span span })) (Err Span) }
 {
-    let p = place(index);
-    if words.len() <= p {
-        return refuse(answers::SPAN, set);
+    if room < span {
+        return Err(Refusal::Span);
     }
+    Ok(BitSet {
+        span: set.span.max(span),
+    })
+}
+
+pub fn insert(set: BitSet, words: &mut [u64], index: usize) -> Result<(BitSet, bool), Refusal>
+    requires { Sound set words.old }
+    ensures { left with_truth set result words.new ≡ inserting index (bytes_of set words.old) }
+{
+    let set = reaching(set, place(index) + 1, words.len())?;
     let was = set_at(words, index);
-    serve(truth(!was), larger(set.span, p + 1))
+    Ok((set, !was))
 }
 
-pub fn toggle(set: BitSet, words: &mut [u64], index: usize) -> Reply
+pub fn toggle(set: BitSet, words: &mut [u64], index: usize) -> Result<(BitSet, bool), Refusal>
     requires { Sound set words.old }
-    ensures { left result words.new ≡ toggling index (bytes_of set words.old) }
+    ensures { left with_truth set result words.new ≡ toggling index (bytes_of set words.old) }
 {
-    let p = place(index);
-    if words.len() <= p {
-        return refuse(answers::SPAN, set);
-    }
+    let set = reaching(set, place(index) + 1, words.len())?;
     let was = flip_at(words, index);
-    serve(truth(!was), larger(set.span, p + 1))
+    Ok((set, !was))
 }
 
-pub fn remove(set: BitSet, words: &mut [u64], index: usize) -> Reply
+pub fn remove(set: BitSet, words: &mut [u64], index: usize) -> (BitSet, bool)
     requires { Sound set words.old }
-    ensures { left result words.new ≡ removing index (bytes_of set words.old) }
+    ensures { left with_truth set (Ok result) words.new ≡ removing index (bytes_of set words.old) }
 {
-    let p = place(index);
-    if words.len() <= p {
-        return serve(0, set.span);
-    }
-    let was = clear_at(words, index);
-    serve(truth(was), set.span)
+    let was = place(index) < words.len() && clear_at(words, index);
+    (set, was)
 }
 
-pub fn contains(set: BitSet, words: &[u64], index: usize) -> Answer
-    requires { Sound set words.now }
-    ensures { result ≡ containing index (bytes_of set words.now) }
-{
-    answer(truth(row::contains(words, index)))
-}
-
-pub fn is_empty(set: BitSet, words: &[u64]) -> Answer
-    requires { Sound set words.now }
-    ensures { result ≡ emptiness (bytes_of set words.now) }
-{
-    let span = set.span;
-    answer(truth(zero_from(&words[..span], 0)))
-}
-
-pub fn len(set: BitSet, words: &[u64]) -> Answer
-    requires { Sound set words.now }
-    ensures { result ≡ counting (bytes_of set words.now) }
-{
-    let span = set.span;
-    answer(count_all(&words[..span]) as u64)
-}
-
-pub fn clear(set: BitSet, words: &mut [u64]) -> Reply
+pub fn clear(set: BitSet, words: &mut [u64]) -> BitSet
     requires { Sound set words.old }
-    ensures { left result words.new ≡ clearing (bytes_of set words.old) }
+    ensures { left alone set (Ok result) words.new ≡ clearing (bytes_of set words.old) }
 {
-    let span = set.span;
-    clear_all(&mut words[..span]);
-    serve(0, span)
+    words[..set.span].fill(0);
+    set
 }
 
 pub fn symmetric_difference_update(
     set: BitSet,
     words: &mut [u64],
-    other: BitSet,
-    others: &[u64],
-) -> Reply
-    requires { Sound set words.old × Sound other others.now }
-    ensures { left result words.new ≡ xoring (bytes_of set words.old) (bytes_of other others.now) }
+    other: Checked<'_>,
+) -> Result<BitSet, Refusal>
+    requires { Sound set words.old }
+    ensures { left alone set result words.new ≡ xoring (bytes_of set words.old) (lent_bytes other.entry.lent) }
 {
-    let needed = other.span;
-    if words.len() < needed {
-        return refuse(answers::SPAN, set);
-    }
-    xor_in(words, &others[..needed]);
-    serve(0, larger(set.span, needed))
+    let reached = reaching(set, other.lent.set.span, words.len())?;
+    xor_in(words, other.front());
+    Ok(reached)
 }
 
-pub fn xor_intersection_into(
+#[tactic(auto, using(crate::proofs::Slices::slices), unfolding(crate::specs::Calls::flipping, crate::specs::Calls::left, crate::specs::Calls::view))]
+pub fn xor_assign_slice(
     set: BitSet,
-    words: &[u64],
-    other: BitSet,
-    others: &[u64],
-    target: BitSet,
-    targets: &mut [u64],
-) -> Reply
-    requires { Sound target targets.old × Sound set words.now × Sound other others.now }
-    ensures { left result targets.new ≡ xoring_shared (bytes_of target targets.old) (bytes_of set words.now) (bytes_of other others.now) }
+    words: &mut [u64],
+    list: Indices<'_>,
+) -> Result<BitSet, Refusal>
+    requires { Sound set words.old }
+    ensures { left alone set result words.new ≡ flipping list.entry.entries.now (bytes_of set words.old) }
 {
-    let s = set.span;
-    let t = other.span;
-    let needed = shorter(s, t);
-    if targets.len() < needed {
-        return refuse(answers::SPAN, target);
-    }
-    xor_in_and(targets, &words[..s], &others[..t]);
-    serve(0, larger(target.span, needed))
+    let reached = reaching(set, indices::span(set.span, list.entries), words.len())?;
+    indices::flip(words, list.entries);
+    Ok(reached)
 }
 
-pub fn xor_symmetric_difference_into(
-    set: BitSet,
-    words: &[u64],
-    other: BitSet,
-    others: &[u64],
-    target: BitSet,
-    targets: &mut [u64],
-) -> Reply
-    requires { Sound target targets.old × Sound set words.now × Sound other others.now }
-    ensures { left result targets.new ≡ xoring_unshared (bytes_of target targets.old) (bytes_of set words.now) (bytes_of other others.now) }
-{
-    let s = set.span;
-    let t = other.span;
-    let needed = larger(s, t);
-    if targets.len() < needed {
-        return refuse(answers::SPAN, target);
-    }
-    xor_in_xor(targets, &words[..s], &others[..t]);
-    serve(0, larger(target.span, needed))
-}
-
-pub fn intersection_count(set: BitSet, words: &[u64], other: BitSet, others: &[u64]) -> Answer
-    requires { Sound set words.now × Sound other others.now }
-    ensures { result ≡ counting_shared (bytes_of set words.now) (bytes_of other others.now) }
-{
-    let s = set.span;
-    let t = other.span;
-    answer(and_count(&words[..s], &others[..t]) as u64)
-}
-
-pub fn xor_assign_slice(set: BitSet, words: &mut [u64], indices: &[usize]) -> Reply
-    requires { Sound set words.old × (length indices.now ≤ 16384) }
-    ensures { left result words.new ≡ flipping indices.now (bytes_of set words.old) }
-{
-    let span = indices::span(set.span, indices);
-    if words.len() < span {
-        return refuse(answers::SPAN, set);
-    }
-    indices::flip(words, indices);
-    serve(0, span)
-}
-
+#[tactic(auto, using(crate::proofs::Slices::slices), unfolding(crate::specs::Calls::flipping_shared, crate::specs::Calls::left, crate::specs::Calls::view))]
 pub fn xor_intersection_slice(
     set: BitSet,
     words: &mut [u64],
-    indices: &[usize],
-    other: BitSet,
-    others: &[u64],
-) -> Reply
-    requires { Sound set words.old × Sound other others.now × (length indices.now ≤ 16384) }
-    ensures { left result words.new ≡ flipping_shared indices.now (bytes_of set words.old) (bytes_of other others.now) }
+    list: Indices<'_>,
+    other: Checked<'_>,
+) -> Result<BitSet, Refusal>
+    requires { Sound set words.old }
+    ensures { left alone set result words.new ≡ flipping_shared list.entry.entries.now (bytes_of set words.old) (lent_bytes other.entry.lent) }
 {
-    let span = indices::span_shared(set.span, indices, others);
-    if words.len() < span {
-        return refuse(answers::SPAN, set);
-    }
-    indices::flip_shared(words, indices, others);
-    serve(0, span)
+    let span = indices::span_shared(set.span, list.entries, other.lent.words);
+    let reached = reaching(set, span, words.len())?;
+    indices::flip_shared(words, list.entries, other.lent.words);
+    Ok(reached)
 }
 
-pub fn intersection_count_slice(set: BitSet, words: &[u64], indices: &[usize]) -> Answer
-    requires { Sound set words.now × (length indices.now ≤ 16384) }
-    ensures { result ≡ counting_entries indices.now (bytes_of set words.now) }
-{
-    answer(indices::count(words, indices) as u64)
-}
-
-pub fn eq(set: BitSet, words: &[u64], other: BitSet, others: &[u64]) -> Answer
-    requires { Sound set words.now × Sound other others.now }
-    ensures { result ≡ comparing (bytes_of set words.now) (bytes_of other others.now) }
-{
-    let s = set.span;
-    let t = other.span;
-    if s != t {
-        return answer(0);
+#[tactic(auto, using(crate::proofs::Outcomes::calls), unfolding(crate::specs::Calls::containing, crate::specs::Calls::emptiness, crate::specs::Calls::counting, crate::specs::Calls::counting_shared, crate::specs::Calls::counting_entries, crate::specs::Calls::comparing, crate::specs::Calls::xoring_shared, crate::specs::Calls::xoring_unshared, crate::specs::Calls::left, crate::specs::Calls::bytes_of, crate::specs::Calls::view, crate::specs::Rules::xored, crate::specs::Rules::shared, crate::specs::Rules::unshared, crate::specs::Rules::equal, answers::specs::Answers::answer_of))]
+impl<'a> Checked<'a> {
+    // The words up to the span, which have all members. Below they are bound to a name where a proof has to know that they fit.
+    fn front(self) -> &'a [u64]
+        ensures { result.now ≡ take self.entry.lent.set.span self.entry.lent.words.now }
+    {
+        &self.lent.words[..self.lent.set.span]
     }
-    answer(truth(xor_span(&words[..s], &others[..t]) == 0))
+
+    pub fn contains(self, index: usize) -> bool
+        ensures { answer_of truth (Ok result) ≡ containing index (lent_bytes self.entry.lent) }
+    {
+        row::contains(self.lent.words, index)
+    }
+
+    pub fn is_empty(self) -> bool
+        ensures { answer_of truth (Ok result) ≡ emptiness (lent_bytes self.entry.lent) }
+    {
+        let front = self.front();
+        zero_from(front, 0)
+    }
+
+    pub fn len(self) -> usize
+        ensures { answer_of (λ n. n) (Ok result) ≡ counting (lent_bytes self.entry.lent) }
+    {
+        count_all(self.front())
+    }
+
+    pub fn intersection_count(self, other: Checked<'_>) -> usize
+        ensures { answer_of (λ n. n) (Ok result) ≡ counting_shared (lent_bytes self.entry.lent) (lent_bytes other.entry.lent) }
+    {
+        and_count(self.front(), other.front())
+    }
+
+    pub fn intersection_count_slice(self, list: Indices<'_>) -> usize
+        ensures { answer_of (λ n. n) (Ok result) ≡ counting_entries list.entry.entries.now (lent_bytes self.entry.lent) }
+    {
+        indices::count(self.lent.words, list.entries)
+    }
+
+    pub fn eq(self, other: Checked<'_>) -> bool
+        ensures { answer_of truth (Ok result) ≡ comparing (lent_bytes self.entry.lent) (lent_bytes other.entry.lent) }
+    {
+        let front = self.front();
+        let others = other.front();
+        self.lent.set == other.lent.set && xor_span(front, others) == 0
+    }
+
+    pub fn xor_intersection_into(
+        self,
+        other: Checked<'_>,
+        target: BitSet,
+        targets: &mut [u64],
+    ) -> Result<BitSet, Refusal>
+        requires { Sound target targets.old }
+        ensures { left alone target result targets.new ≡ xoring_shared (bytes_of target targets.old) (lent_bytes self.entry.lent) (lent_bytes other.entry.lent) }
+    {
+        let span = self.lent.set.span.min(other.lent.set.span);
+        let reached = reaching(target, span, targets.len())?;
+        xor_in_and(targets, self.front(), other.front());
+        Ok(reached)
+    }
+
+    pub fn xor_symmetric_difference_into(
+        self,
+        other: Checked<'_>,
+        target: BitSet,
+        targets: &mut [u64],
+    ) -> Result<BitSet, Refusal>
+        requires { Sound target targets.old }
+        ensures { left alone target result targets.new ≡ xoring_unshared (bytes_of target targets.old) (lent_bytes self.entry.lent) (lent_bytes other.entry.lent) }
+    {
+        let span = self.lent.set.span.max(other.lent.set.span);
+        let reached = reaching(target, span, targets.len())?;
+        xor_in_xor(targets, self.front(), other.front());
+        Ok(reached)
+    }
 }

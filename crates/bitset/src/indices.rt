@@ -1,20 +1,39 @@
 // Lists of indices, as the slice forms take them: in any order, with repeats.
-ghost use Rattle.std.specs.Prelude.{◌≡◌, ◌+◌, ◌*◌, ◌/◌, ◌≤◌, max, length};
-ghost use Rattle.words.specs.Sets.{Below};
+#![tactic(auto, using(crate::proofs::IndexLaws::listed), unfolding(words::specs::Words::flips, crate::specs::Steps::reached, crate::specs::Rules::entries))]
+
+ghost use Rattle.std.specs.Prelude.{◌≡◌, ◌+◌, ◌*◌, ◌/◌, ◌≤◌, max, leb, length, IfOk};
+ghost use Rattle.words.specs.Sets.{pick, Below};
 ghost use Rattle.words.specs.Words.{at, flips};
+ghost use Rattle.answers.specs.Answers.{number_of};
 ghost use Rattle.bitset.specs.Rules.{entries};
 ghost use Rattle.bitset.specs.Steps.{reached};
 
+use answers::Refusal;
 use words::row::contains;
 use words::word::place;
 use words::write::flip_at;
 
-// The span that reaches one more index.
-fn farther(span: usize, index: usize) -> usize
-    ensures { result ≡ max span (index / 64 + 1) }
-{
-    let p = place(index);
-    if span <= p { p + 1 } else { span }
+// The most entries a list has.
+pub const ENTRIES: usize = 16384;
+
+// A list that is no longer than a call takes.
+#[derive(Clone, Copy)]
+pub struct Indices<'a> {
+    pub entries: &'a [usize],
+    pub ghost few: { length entries.now ≤ 16384 },
+}
+
+#[tactic(auto, unfolding(answers::specs::Answers::number_of, answers::specs::Answers::number))]
+impl<'a> Indices<'a> {
+    pub fn new(entries: &'a [usize]) -> Result<Indices<'a>, Refusal>
+        ensures number { number_of result ≡ pick (leb (length entries.now) 16384) 0 1 }
+        ensures same { IfOk result (λ list. list.entries.now ≡ entries.now) }
+    {
+        if ENTRIES < entries.len() {
+            return Err(Refusal::Length);
+        }
+        Ok(Indices { entries })
+    }
 }
 
 // The span that reaches every index of a list, and at least `span`.
@@ -22,10 +41,8 @@ pub fn span(span: usize, indices: &[usize]) -> usize
     ensures { result ≡ reached span indices.now }
 {
     let mut reach = span;
-    let mut i = 0;
-    while i < indices.len() {
-        reach = farther(reach, indices[i]);
-        i += 1;
+    for index in indices {
+        reach = reach.max(place(*index) + 1);
     }
     reach
 }
@@ -35,24 +52,21 @@ pub fn flip(words: &mut [u64], indices: &[usize])
     requires { Below (64 * length words.old) indices.now }
     ensures { words.new ≡ flips words.old indices.now }
 {
-    let mut i = 0;
-    while i < indices.len() {
-        flip_at(words, indices[i]);
-        i += 1;
+    for index in indices {
+        flip_at(words, *index);
     }
 }
 
-// The span that reaches every index of a list that other words have, and at least `span`.
+// The span that reaches every index of a list that other words have, and at least `span`. A function for this and the one above,
+// as one for the two that flip, would take a test, and its contract what the test answers of each index: longer than the loop.
 pub fn span_shared(span: usize, indices: &[usize], other: &[u64]) -> usize
     ensures { result ≡ reached span (entries (at other.now) indices.now) }
 {
     let mut reach = span;
-    let mut i = 0;
-    while i < indices.len() {
-        if contains(other, indices[i]) {
-            reach = farther(reach, indices[i]);
+    for index in indices {
+        if contains(other, *index) {
+            reach = reach.max(place(*index) + 1);
         }
-        i += 1;
     }
     reach
 }
@@ -62,27 +76,19 @@ pub fn flip_shared(words: &mut [u64], indices: &[usize], other: &[u64])
     requires { Below (64 * length words.old) (entries (at other.now) indices.now) }
     ensures { words.new ≡ flips words.old (entries (at other.now) indices.now) }
 {
-    let mut i = 0;
-    while i < indices.len() {
-        if contains(other, indices[i]) {
-            flip_at(words, indices[i]);
+    for index in indices {
+        if contains(other, *index) {
+            flip_at(words, *index);
         }
-        i += 1;
     }
 }
 
 // How many entries of a list the words have.
 pub fn count(words: &[u64], indices: &[usize]) -> usize
-    requires { length indices.now ≤ 16384 }
     ensures { result ≡ length (entries (at words.now) indices.now) }
 {
-    let mut n: usize = 0;
-    let mut i = 0;
-    while i < indices.len() {
-        if contains(words, indices[i]) {
-            n += 1;
-        }
-        i += 1;
-    }
-    n
+    indices
+        .iter()
+        .filter(|index| contains(words, **index))
+        .count()
 }
