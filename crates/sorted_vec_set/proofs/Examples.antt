@@ -6,7 +6,7 @@ use Prim.Native.Nat.{ℕ}
 use lib.ListN.{replicate}
 use Rattle.words.specs.Sets.{has, same, merge}
 use Rattle.words.specs.Words.{zeros}
-use Rattle.answers.specs.declared.Answer.{Answer}
+use Rattle.answers.specs.Answers.{Answer}
 use Rattle.answers.specs.Answers.{truth, answered}
 use Rattle.answers.specs.Judging.{verdict}
 use Rattle.ascending.specs.Order.{ascends, row}

@@ -1,17 +1,30 @@
--- What the calls' definitions come to, path by path: which sets are sound, what is refused, and what is written. Assumes nothing.
-use mathlib.Core.Path.{◌≡◌, ◌∙◌}
-use mathlib.Core.List.{List, [], ◌∷◌}
-use Prim.Native.Nat.{ℕ, ◌≤◌, ◌<◌}
-use lib.ListN.{length, take}
-use borrow.Author.Tests.{eq-eqb, ne_eqb, le-leb, lt-leb, leb-true}
-use Rattle.words.proofs.Cases.{and_parts}
-use Rattle.answers.specs.Judging.{verdict}
+-- What the calls are proved by: a set is sound exactly when nothing refuses it, what a set rule does to ascending elements, and
+-- what is then written. Assumes nothing.
+use mathlib.Core.Path.{◌≡◌, refl, sym, ap}
+use mathlib.Core.Bool.{true, false}
+use mathlib.Core.List.{List, [], ◌∷◌, ◌++◌}
+use Prim.Native.Nat.{ℕ, ◌+◌, ◌≤◌, ◌<◌}
+use native.Mathlib.Omega.{arith}
+use lib.ListN.{length, take, drop, replicate, length-take, length-drop, length-replicate, length-append}
+use lib.Seq.{length-take-le, drop-drop}
+use borrow.Author.Tests.{le-leb, leb-true}
+use Rattle.words.specs.Sets.{pick, Ascending, has, insert, remove, toggle}
+use Rattle.words.specs.Words.{zeros}
+use Rattle.words.proofs.Cases.{and_parts, pick-case}
+use Rattle.words.proofs.SetLaws.{remove_absent}
+use Rattle.words.proofs.RowLaws.{zeros-drop, zeros-append, zeros-replicate}
+use Rattle.answers.specs.Judging.{verdict, Judged}
 use Rattle.answers.proofs.Judging.{Passed, passed_none, none_passed, more_none, none_more}
 use Rattle.ascending.specs.Order.{row}
+use Rattle.ascending.specs.Places.{insert_at, remove_at}
+use Rattle.ascending.specs.Search.{place}
 use Rattle.ascending.proofs.OrderLaws.{ascends-ascending, ascending-ascends}
+use Rattle.ascending.proofs.SearchLaws.{Stands, Lacks, place-le, place-lt}
+use Rattle.ascending.proofs.PlaceLaws.{length-insert-at, length-remove-at, insert-absent, insert-present, remove-present, toggle-absent, toggle-present}
+use Rattle.ascending.proofs.RowLaws.{row_of, row_is}
 use Rattle.sorted_vec_set.specs.declared.SortedVecSet.{SortedVecSet}
-use Rattle.sorted_vec_set.specs.declared.Reply.{Reply}
-use Rattle.sorted_vec_set.specs.Calls.{in_range, sound, judged, encode, refused, result, bytes_of, left, Sound}
+use Rattle.sorted_vec_set.specs.declared.lent.Lent.{Lent}
+use Rattle.sorted_vec_set.specs.Calls.{in_range, sound, judged, bytes_of, lent_bytes, Sound}
 
 -- ---- judging
 
@@ -35,48 +48,59 @@ passed-sound {set} {es} p =
       beyond = rest.1;
     }
 
--- one set, two and three are refused by nothing exactly when they are sound
+-- nothing refuses a sound set
 pub sound_none : {set : SortedVecSet} {es : List ℕ} → Sound set es → verdict (judged (bytes_of set es) ∷ []) ≡ 0
 sound_none h = passed_none (sound-passed h)
 
-pub none-sound : {set : SortedVecSet} {es : List ℕ} → verdict (judged (bytes_of set es) ∷ []) ≡ 0 → Sound set es
-none-sound e = passed-sound (none_passed _ e)
+-- where nothing refuses several sets, the first is sound and nothing refuses the others
+pub first_sound : (s : Lent) (sets : List Judged) → verdict (judged (lent_bytes s) ∷ sets) ≡ 0 → Sound s.set s.elements.now × (verdict sets ≡ 0)
+first_sound s sets e = let parts = none_more _ sets e in (passed-sound parts.0, parts.1)
 
-pub two_none : {set other : SortedVecSet} {es os : List ℕ} → Sound set es × Sound other os
-    → verdict (judged (bytes_of set es) ∷ judged (bytes_of other os) ∷ []) ≡ 0
-two_none h = more_none _ (sound-passed h.0) (sound_none h.1)
+-- where nothing refuses the first nor the others, nothing refuses all of them
+pub together_none : (s : Judged) (sets : List Judged) → verdict (s ∷ []) ≡ 0 → verdict sets ≡ 0 → verdict (s ∷ sets) ≡ 0
+together_none s sets e f = more_none sets (none_passed s e) f
 
-pub two_sound : {set other : SortedVecSet} {es os : List ℕ} → verdict (judged (bytes_of set es) ∷ judged (bytes_of other os) ∷ []) ≡ 0
-    → Sound set es × Sound other os
-two_sound e = let parts = none_more _ _ e in (passed-sound parts.0, none-sound parts.1)
+-- ---- the set rules, by whether the element is there
 
-pub three_none : {target set other : SortedVecSet} {ts es os : List ℕ} → Sound target ts × Sound set es × Sound other os
-    → verdict (judged (bytes_of target ts) ∷ judged (bytes_of set es) ∷ judged (bytes_of other os) ∷ []) ≡ 0
-three_none h = more_none _ (sound-passed h.0) (two_none (h.1, h.2))
+module _ (x : ℕ) (l : List ℕ) (a : Ascending l) where
+  stands : has l x ≡ true → Stands x l (place x l)
+  stands e = record { is = e; at = refl; within = place-lt x l e }
 
-pub three_sound : {target set other : SortedVecSet} {ts es os : List ℕ}
-    → verdict (judged (bytes_of target ts) ∷ judged (bytes_of set es) ∷ judged (bytes_of other os) ∷ []) ≡ 0
-    → Sound target ts × Sound set es × Sound other os
-three_sound e =
-    let parts = none_more _ _ e in
-    let operands = two_sound parts.1 in
-    (passed-sound parts.0, operands.0, operands.1)
+  lacks : has l x ≡ false → Lacks x l (place x l)
+  lacks e = record { is = e; at = refl; within = place-le x l }
 
--- ---- from a reply to what the call leaves
+  pub insert_is : insert x l ≡ pick (has l x) l (insert_at (place x l) x l)
+  insert_is = pick-case (λ r. insert x l ≡ r) (has l x) (λ e. insert-present a (stands e)) (λ e. insert-absent a (lacks e))
 
-pub refused-left : (es : List ℕ) (v : ℕ) (l : List ℕ) {set : SortedVecSet} {n m : ℕ} {r : Reply} → n ≡ m → (n ≡ 0 → ⊥)
-    → r ≡ record { answer = record { number = n; value = 0 }; set = set } → left r es ≡ result m (bytes_of set es) v l
-unfolding left result refused bytes_of
-refused-left es v l {m = m} e h q = rw (q, e, ne_eqb m 0 (λ z. h (e ∙ z)))
+  pub remove_is : remove x l ≡ pick (has l x) (remove_at (place x l) l) l
+  remove_is = pick-case (λ r. remove x l ≡ r) (has l x) (λ e. remove-present a (stands e)) (λ e. remove_absent x l a e)
 
--- more members than room
-pub lacking_left : (es : List ℕ) (v : ℕ) (l : List ℕ) {set : SortedVecSet} {n : ℕ} {r : Reply} → n ≡ 0 → length es < length l
-    → r ≡ record { answer = record { number = 5; value = 0 }; set = set } → left r es ≡ result n (bytes_of set es) v l
-unfolding left result refused bytes_of
-lacking_left es v l {n = n} e h q = rw (q, eq-eqb n 0 e, lt-leb (length l) (length es) h)
+  pub toggle_is : toggle x l ≡ pick (has l x) (remove_at (place x l) l) (insert_at (place x l) x l)
+  toggle_is = pick-case (λ r. toggle x l ≡ r) (has l x) (λ e. toggle-present a (stands e)) (λ e. toggle-absent a (lacks e))
 
-pub served-left : (set : SortedVecSet) (es new l : List ℕ) {n v value count : ℕ} {r : Reply} → n ≡ 0 → length l ≤ length es
-    → new ≡ row (length es) l → value ≡ v → count ≡ length l
-    → r ≡ record { answer = record { number = 0; value = value }; set = record { count = count } } → left r new ≡ result n (bytes_of set es) v l
-unfolding left result encode bytes_of
-served-left set es new l {n} e h w a k q = rw (q, w, a, k, eq-eqb n 0 e, le-leb (length l) (length es) h)
+-- ---- the first n as they were, with one more, with one less and with none, over elements that are 0 behind them
+
+module _ (n : ℕ) (es : List ℕ) (z : zeros (drop n es) ≡ true) where
+  pub row_same : n ≤ length es → row (length es) (take n es) ≡ es
+  row_same h = sym (row_is n es h z)
+
+  pub row_grown : (p x : ℕ) → n < length es → insert_at p x (take n es) ++ drop (n + 1) es ≡ row (length es) (insert_at p x (take n es))
+  row_grown p x h =
+      row_of (length es) (insert_at p x (take n es)) (drop (n + 1) es)
+      (omega (arith, length-insert-at p x (take n es), length-take-le n es (omega arith), length-drop (n + 1) es))
+      (rw (← drop-drop 1 n es) (zeros-drop 1 (drop n es) z))
+
+  pub row_shrunk : (p : ℕ) → n ≤ length es → p < n → remove_at p (take n es) ++ (0 ∷ drop n es) ≡ row (length es) (remove_at p (take n es))
+  unfolding zeros
+  row_shrunk p h q =
+      let k : length (take n es) ≡ n = length-take-le n es h in
+      row_of (length es) (remove_at p (take n es)) (0 ∷ drop n es)
+      (omega (arith, length-remove-at p (take n es) (omega (arith, k)), k, length-drop n es)) z
+
+  pub row_emptied : (front : List ℕ) → n ≤ length es → front ≡ replicate (length (take n es)) 0 → front ++ drop n es ≡ row (length es) []
+  row_emptied front h e =
+      row_of (length es) [] (front ++ drop n es)
+      (simp (length-append, length-drop) (omega (arith, ap length e, length-replicate {A = ℕ} (length (take n es)) 0, length-take-le n es h)))
+      (rw (zeros-append front (drop n es), e, z, zeros-replicate))
+
+pub ruleset calls = (first_sound, sound_none, together_none, insert_is, remove_is, toggle_is, place-le, place-lt, row_same, row_grown, row_shrunk, row_emptied, length-insert-at, length-remove-at, length-take)

@@ -1,16 +1,15 @@
 -- SortedVecSet's bytes, and each call as a function from the bytes of the sets that it names to what it leaves: the first
 -- refusal of document 01's table that applies, with value 0 and everything as it was; or the answer, and the members that the
 -- set rules give (crates/words/specs/Sets.antt), written in the target's elements. Assumes nothing.
-use Rattle.std.specs.Prelude.{Bool, true, not, ◌&&◌, List, [], ◌∷◌, ◌≡◌, ℕ, ◌≤◌, eqb, leb, length, take, drop, replicate}
+use Rattle.std.specs.Prelude.{Bool, true, not, ◌&&◌, List, [], ◌∷◌, ◌≡◌, ℕ, ◌≤◌, eqb, leb, length, take, drop, replicate, Result, Ok, Err}
 use Rattle.words.specs.Sets.{pick, Ascending, has, same, insert, remove, toggle, difference, intersection}
 use Rattle.words.specs.Words.{zeros}
-use Rattle.answers.specs.declared.Answer.{Answer}
-use Rattle.answers.specs.Answers.{truth, answered}
+use Rattle.answers.specs.declared.Refusal.{Refusal}
+use Rattle.answers.specs.Answers.{Answer, truth, answered, number}
 use Rattle.answers.specs.Judging.{Judged, verdict}
 use Rattle.ascending.specs.Order.{ascends, row}
 use Rattle.sorted_vec_set.specs.declared.SortedVecSet.{SortedVecSet}
-use Rattle.sorted_vec_set.specs.declared.Reply.{Reply}
-use Rattle.sorted_vec_set.specs.declared.Taken.{Taken}
+use Rattle.sorted_vec_set.specs.declared.lent.Lent.{Lent}
 
 -- ---- bytes
 
@@ -137,12 +136,31 @@ comparing b o = answered (verdict (judged b ∷ judged o ∷ [])) (truth (same (
 unfoldable pub bytes_of : SortedVecSet → List ℕ → Bytes
 bytes_of set elements = record { count = set.count; elements = elements }
 
--- what a call has left: its reply, and the elements
-unfoldable pub left : Reply → List ℕ → Outcome
-left r elements = record { answer = r.answer; bytes = record { count = r.set.count; elements = elements } }
+-- a set over its elements, lent to be read
+abbrev pub lent_bytes : Lent → Bytes
+lent_bytes s = bytes_of s.set s.elements.now
 
-unfoldable pub handed : Taken → List ℕ → List ℕ → Handed
-handed r elements others = record { answer = r.answer; from = bytes_of r.set elements; to = bytes_of r.other others }
+-- what a served call gives, as the header and the value of its answer: yes or no beside the header, or the header alone
+abbrev pub with_truth : SortedVecSet × Bool → SortedVecSet × ℕ
+with_truth given = (given.0, truth given.1)
+
+abbrev pub alone : SortedVecSet → SortedVecSet × ℕ
+alone set = (set, 0)
+
+-- what a call has left of a set and its elements. A refusal gives no header: the one that went in stays
+unfoldable pub left : {A : Type 0} → (A → SortedVecSet × ℕ) → SortedVecSet → Result A Refusal → List ℕ → Outcome
+unfolding number bytes_of
+left gives set (Ok given) elements =
+    record { answer = record { number = 0; value = (gives given).1 }; bytes = bytes_of (gives given).0 elements }
+left gives set (Err refusal) elements = record { answer = record { number = number refusal; value = 0 }; bytes = bytes_of set elements }
+
+-- the same of the two sets of `take_clearing`
+unfoldable pub handed : SortedVecSet → SortedVecSet → Result (SortedVecSet × SortedVecSet) Refusal → List ℕ → List ℕ → Handed
+unfolding number bytes_of
+handed set other (Ok given) elements others =
+    record { answer = record { number = 0; value = 0 }; from = bytes_of given.0 elements; to = bytes_of given.1 others }
+handed set other (Err refusal) elements others =
+    record { answer = record { number = number refusal; value = 0 }; from = bytes_of set elements; to = bytes_of other others }
 
 -- a set that is known to be sound
 pub record Sound (set : SortedVecSet) (elements : List ℕ) : Type 0 where

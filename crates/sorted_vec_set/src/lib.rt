@@ -1,221 +1,112 @@
 // SortedVecSet, the port of sorted_vec_set.rs: a count over lent elements, 0 to 8,192 of them, strictly ascending.
 //
-// The header goes in and comes back by value, in the reply. Every call is total: what can't be served is refused under
-// document 01's numbers and changes nothing. A call judges its sets, which is linear in their elements, and then does the
-// work; for sets that are known to be sound, module `checked` has the same calls without the judging.
+// The header goes in and comes back by value. Every call is total: what can't be served is refused under document 01's numbers
+// and changes nothing, the header that went in included. A call judges its sets, which is linear in their elements, and then
+// does the work; for sets that are known to be sound, module `checked` has the same calls without the judging.
 #![tactic(auto)]
 
 ghost use Rattle.std.specs.Prelude.{◌≡◌};
-ghost use Rattle.sorted_vec_set.specs.Calls.{bytes_of, left, handed, preparing, inserting, removing, toggling, clearing, singling, xoring, xoring_shared, xoring_unshared, taking, containing, counting, emptiness, counting_shared, comparing};
+ghost use Rattle.sorted_vec_set.specs.Calls.{bytes_of, lent_bytes, left, handed, with_truth, alone, preparing, inserting, removing, toggling, clearing, singling, xoring, taking};
 
-use answers::Answer;
-use answers::give::refusal;
-use words::write::clear_all;
+use answers::Refusal;
+use answers::judge::judge;
 
 pub mod checked;
-pub mod judge;
-pub mod replies;
+pub mod lent;
 pub mod xor;
 
-#[derive(Clone, Copy)]
+pub use crate::lent::Lent;
+
+// The most elements that a set is lent.
+pub const ELEMENTS: usize = 8192;
+
+#[derive(Clone, Copy, Debug, PartialEq, Eq)]
 pub struct SortedVecSet {
     pub count: usize,
 }
 
-// What a call that may change its target gives back: the answer, and the target's header.
-#[derive(Clone, Copy)]
-pub struct Reply {
-    pub answer: Answer,
-    pub set: SortedVecSet,
-}
-
-// What `take_clearing` gives back: the answer, and the headers of the set that is cleared and of the one that is filled.
-#[derive(Clone, Copy)]
-pub struct Taken {
-    pub answer: Answer,
-    pub set: SortedVecSet,
-    pub other: SortedVecSet,
-}
-
+#[tactic(auto, using(crate::proofs::Outcomes::first_sound, crate::proofs::Outcomes::sound_none), unfolding(crate::specs::Calls::preparing, crate::specs::Calls::inserting, crate::specs::Calls::removing, crate::specs::Calls::toggling, crate::specs::Calls::clearing, crate::specs::Calls::singling, crate::specs::Calls::xoring, crate::specs::Calls::taking, crate::specs::Calls::left, crate::specs::Calls::handed, crate::specs::Calls::result, crate::specs::Calls::refused, answers::specs::Answers::number_of))]
 impl SortedVecSet {
     // An empty set over elements of any contents.
-    pub fn new(elements: &mut [u64]) -> Reply
-        ensures { left result elements.new ≡ preparing elements.old }
+    pub fn new(elements: &mut [u64]) -> Result<SortedVecSet, Refusal>
+        ensures { left alone (record { count = 0 }) result elements.new ≡ preparing elements.old }
     {
-        if judge::ELEMENTS < elements.len() {
-            return replies::refuse(answers::LENGTH, SortedVecSet { count: 0 });
+        if ELEMENTS < elements.len() {
+            return Err(Refusal::Length);
         }
-        clear_all(elements);
-        replies::serve(0, 0)
+        elements.fill(0);
+        Ok(SortedVecSet { count: 0 })
     }
 
-    pub fn len(self, elements: &[u64]) -> Answer
-        ensures { result ≡ counting (bytes_of self elements.now) }
+    // The set over its elements, to be read.
+    pub fn over(self, elements: &[u64]) -> Lent<'_>
+        ensures set { result.set ≡ self }
+        ensures elements { result.elements.now ≡ elements.now }
     {
-        let number = judge::one(self, elements);
-        if number != answers::SERVED {
-            return refusal(number);
+        Lent {
+            set: self,
+            elements,
         }
-        checked::len(self, elements)
-    }
-
-    pub fn is_empty(self, elements: &[u64]) -> Answer
-        ensures { result ≡ emptiness (bytes_of self elements.now) }
-    {
-        let number = judge::one(self, elements);
-        if number != answers::SERVED {
-            return refusal(number);
-        }
-        checked::is_empty(self, elements)
     }
 
     // Takes every element out.
-    pub fn clear(self, elements: &mut [u64]) -> Reply
-        ensures { left result elements.new ≡ clearing (bytes_of self elements.old) }
+    pub fn clear(self, elements: &mut [u64]) -> Result<SortedVecSet, Refusal>
+        ensures { left alone self result elements.new ≡ clearing (bytes_of self elements.old) }
     {
-        let number = judge::one(self, elements);
-        if number != answers::SERVED {
-            return replies::refuse(number, self);
-        }
-        checked::clear(self, elements)
-    }
-
-    pub fn contains(self, elements: &[u64], element: u64) -> Answer
-        ensures { result ≡ containing element (bytes_of self elements.now) }
-    {
-        let number = judge::one(self, elements);
-        if number != answers::SERVED {
-            return refusal(number);
-        }
-        checked::contains(self, elements, element)
+        judge(&[self.over(elements)])?;
+        Ok(checked::clear(self, elements))
     }
 
     // Puts an element in; answers whether it is new.
-    pub fn insert(self, elements: &mut [u64], element: u64) -> Reply
-        ensures { left result elements.new ≡ inserting element (bytes_of self elements.old) }
+    pub fn insert(self, elements: &mut [u64], element: u64) -> Result<(SortedVecSet, bool), Refusal>
+        ensures { left with_truth self result elements.new ≡ inserting element (bytes_of self elements.old) }
     {
-        let number = judge::one(self, elements);
-        if number != answers::SERVED {
-            return replies::refuse(number, self);
-        }
+        judge(&[self.over(elements)])?;
         checked::insert(self, elements, element)
     }
 
     // Takes an element out; answers whether it was present.
-    pub fn remove(self, elements: &mut [u64], element: u64) -> Reply
-        ensures { left result elements.new ≡ removing element (bytes_of self elements.old) }
+    pub fn remove(self, elements: &mut [u64], element: u64) -> Result<(SortedVecSet, bool), Refusal>
+        ensures { left with_truth self result elements.new ≡ removing element (bytes_of self elements.old) }
     {
-        let number = judge::one(self, elements);
-        if number != answers::SERVED {
-            return replies::refuse(number, self);
-        }
-        checked::remove(self, elements, element)
+        judge(&[self.over(elements)])?;
+        Ok(checked::remove(self, elements, element))
     }
 
     // Puts an element in or takes it out.
-    pub fn toggle(self, elements: &mut [u64], element: u64) -> Reply
-        ensures { left result elements.new ≡ toggling element (bytes_of self elements.old) }
+    pub fn toggle(self, elements: &mut [u64], element: u64) -> Result<SortedVecSet, Refusal>
+        ensures { left alone self result elements.new ≡ toggling element (bytes_of self elements.old) }
     {
-        let number = judge::one(self, elements);
-        if number != answers::SERVED {
-            return replies::refuse(number, self);
-        }
+        judge(&[self.over(elements)])?;
         checked::toggle(self, elements, element)
     }
 
     // XORs another set in.
-    pub fn xor_assign(self, elements: &mut [u64], other: SortedVecSet, others: &[u64]) -> Reply
-        ensures { left result elements.new ≡ xoring (bytes_of self elements.old) (bytes_of other others.now) }
+    pub fn xor_assign(self, elements: &mut [u64], other: Lent<'_>) -> Result<SortedVecSet, Refusal>
+        ensures { left alone self result elements.new ≡ xoring (bytes_of self elements.old) (lent_bytes other.entry) }
     {
-        let number = judge::two(self, elements, other, others);
-        if number != answers::SERVED {
-            return replies::refuse(number, self);
-        }
-        checked::xor_assign(self, elements, other, others)
+        judge(&[self.over(elements), other])?;
+        checked::xor_assign(self, elements, other.known())
     }
 
-    // Hands every element over to another set, whose own are lost.
+    // Hands every element over to another set, whose own are lost; gives the headers of both.
     pub fn take_clearing(
         self,
         elements: &mut [u64],
         other: SortedVecSet,
         others: &mut [u64],
-    ) -> Taken
-        ensures { handed result elements.new others.new ≡ taking (bytes_of self elements.old) (bytes_of other others.old) }
+    ) -> Result<(SortedVecSet, SortedVecSet), Refusal>
+        ensures { handed self other result elements.new others.new ≡ taking (bytes_of self elements.old) (bytes_of other others.old) }
     {
-        let number = judge::two(self, elements, other, others);
-        if number != answers::SERVED {
-            return replies::keep(number, self, other);
-        }
+        judge(&[self.over(elements), other.over(others)])?;
         checked::take_clearing(self, elements, other, others)
     }
 
     // Leaves one element and no other.
-    pub fn set_single(self, elements: &mut [u64], element: u64) -> Reply
-        ensures { left result elements.new ≡ singling element (bytes_of self elements.old) }
+    pub fn set_single(self, elements: &mut [u64], element: u64) -> Result<SortedVecSet, Refusal>
+        ensures { left alone self result elements.new ≡ singling element (bytes_of self elements.old) }
     {
-        let number = judge::one(self, elements);
-        if number != answers::SERVED {
-            return replies::refuse(number, self);
-        }
+        judge(&[self.over(elements)])?;
         checked::set_single(self, elements, element)
-    }
-
-    // How many elements two sets have in common.
-    pub fn intersection_count(self, elements: &[u64], other: SortedVecSet, others: &[u64]) -> Answer
-        ensures { result ≡ counting_shared (bytes_of self elements.now) (bytes_of other others.now) }
-    {
-        let number = judge::two(self, elements, other, others);
-        if number != answers::SERVED {
-            return refusal(number);
-        }
-        checked::intersection_count(self, elements, other, others)
-    }
-
-    // XORs what this set and another have in common into a target.
-    pub fn xor_intersection_into(
-        self,
-        elements: &[u64],
-        other: SortedVecSet,
-        others: &[u64],
-        target: SortedVecSet,
-        targets: &mut [u64],
-    ) -> Reply
-        ensures { left result targets.new ≡ xoring_shared (bytes_of target targets.old) (bytes_of self elements.now) (bytes_of other others.now) }
-    {
-        let number = judge::three(target, targets, self, elements, other, others);
-        if number != answers::SERVED {
-            return replies::refuse(number, target);
-        }
-        checked::xor_intersection_into(self, elements, other, others, target, targets)
-    }
-
-    // XORs this set and another into a target.
-    pub fn xor_symmetric_difference_into(
-        self,
-        elements: &[u64],
-        other: SortedVecSet,
-        others: &[u64],
-        target: SortedVecSet,
-        targets: &mut [u64],
-    ) -> Reply
-        ensures { left result targets.new ≡ xoring_unshared (bytes_of target targets.old) (bytes_of self elements.now) (bytes_of other others.now) }
-    {
-        let number = judge::three(target, targets, self, elements, other, others);
-        if number != answers::SERVED {
-            return replies::refuse(number, target);
-        }
-        checked::xor_symmetric_difference_into(self, elements, other, others, target, targets)
-    }
-
-    // Whether two sets have the same elements.
-    pub fn eq(self, elements: &[u64], other: SortedVecSet, others: &[u64]) -> Answer
-        ensures { result ≡ comparing (bytes_of self elements.now) (bytes_of other others.now) }
-    {
-        let number = judge::two(self, elements, other, others);
-        if number != answers::SERVED {
-            return refusal(number);
-        }
-        checked::eq(self, elements, other, others)
     }
 }
