@@ -1,4 +1,4 @@
-pub mod CheckLaws
-pub mod StorageLaws
-pub mod ReadLaws
-pub mod WriteLaws
+pub mod Calls
+pub mod Soundness
+pub mod Stored
+pub mod Paths

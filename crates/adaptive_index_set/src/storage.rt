@@ -1,37 +1,28 @@
 // How a header of a sound set says that its members are stored.
 ghost use Rattle.std.specs.Prelude.{◌≡◌};
-ghost use Rattle.adaptive_index_set.specs.Steps.{storage_of, width_of};
+ghost use Rattle.adaptive_index_set.specs.Steps.{storage_of};
 
 use crate::Header;
 
-// In words, or in so many keys.
-#[derive(Clone, Copy)]
+// In words, narrow with a span, or wide with a span and a count; or in so many keys.
+#[derive(Clone, Copy, Debug, PartialEq, Eq)]
 pub enum Storage {
-    Dense(Width),
+    Narrow(usize),
+    Wide(usize, usize),
     Sparse(usize),
 }
 
-// Narrow with a span, or wide with a span and a count.
-#[derive(Clone, Copy)]
-pub enum Width {
-    Narrow(usize),
-    Wide(usize, usize),
-}
+#[tactic(auto, unfolding(crate::specs::Steps::storage_of))]
+impl From<Header> for Storage {
+    ghost from_gives = { λ header storage. storage ≡ storage_of header };
 
-fn by_span(header: Header) -> Width
-    ensures { result ≡ width_of header }
-{
-    if header.span <= Header::NARROW {
-        return Width::Narrow(header.span);
+    fn from(header: Header) -> Storage {
+        if header.mode != Header::DENSE {
+            Storage::Sparse(header.count)
+        } else if header.span <= Header::NARROW {
+            Storage::Narrow(header.span)
+        } else {
+            Storage::Wide(header.span, header.count)
+        }
     }
-    Width::Wide(header.span, header.count)
-}
-
-pub fn of(header: Header) -> Storage
-    ensures { result ≡ storage_of header }
-{
-    if header.mode == Header::DENSE {
-        return Storage::Dense(by_span(header));
-    }
-    Storage::Sparse(header.count)
 }

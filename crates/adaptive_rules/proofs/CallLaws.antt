@@ -11,7 +11,7 @@ use lib.ListN.{length}
 use borrow.Author.Tests.{eq-eqb, ne_eqb}
 use Rattle.words.specs.Sets.{pick}
 use Rattle.words.proofs.Cases.{same_or_not}
-use Rattle.answers.specs.declared.Answer.{Answer}
+use Rattle.answers.specs.Answers.{Answer}
 use Rattle.adaptive_rules.specs.Bytes.{Bytes, in_range, sound, view, Sound}
 use Rattle.adaptive_rules.specs.Calls.{Call, keeps, effect, value, refusal, first, range, verdict, index, fit, answer, operands, viewed, judged, written, result_of}
 

@@ -7,7 +7,7 @@ use lib.Dec.{eqb}
 use lib.ListN.{replicate}
 use Rattle.words.specs.Sets.{pick, has, against, merge}
 use Rattle.words.specs.Words.{members_from, needed_from, needed, zeros}
-use Rattle.answers.specs.declared.Answer.{Answer}
+use Rattle.answers.specs.Answers.{Answer}
 use Rattle.answers.specs.Answers.{truth}
 use Rattle.ascending.specs.Order.{ascends}
 use Rattle.adaptive_rules.specs.States.{State, narrow, wide, sparse, prepared}

@@ -2,8 +2,7 @@
 -- in a list in document 01's order, of which the first is given with its value. Assumes nothing.
 use Rattle.std.specs.Prelude.{not, List, [], ◌∷◌, ◌++◌, map, ℕ, ◌*◌, ◌/◌, eqb, leb, length}
 use Rattle.words.specs.Sets.{pick, has, intersection}
-use Rattle.answers.specs.declared.Answer.{Answer}
-use Rattle.answers.specs.Answers.{truth}
+use Rattle.answers.specs.Answers.{Answer, truth}
 use Rattle.adaptive_rules.specs.States.{State, narrow, wide, sparse, members, count, span, prepared}
 use Rattle.adaptive_rules.specs.Rules.{inserted, removed, toggled, cleared, alone, shared, unshared, xored}
 use Rattle.adaptive_rules.specs.Bytes.{Bytes, in_range, sound, view, encode}
