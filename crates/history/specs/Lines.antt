@@ -1,7 +1,7 @@
 -- What the bytes of a history's line say; oracle/README.md has the table of its fields. Assumes nothing.
-use Rattle.std.specs.Prelude.{ℕ, ◌+◌, ◌-◌, ◌*◌, ◌%◌, ◌^◌, true, false, cond, List, [], ◌∷◌, length, ◌==◌, nat_lt}
-use Rattle.std.proofs.Math.Seq.{slice}
+use Rattle.std.specs.Prelude.{ℕ, ◌+◌, ◌-◌, ◌*◌, ◌%◌, ◌^◌, cond, List, [], ◌∷◌, length, slice_range, Option, Some, None, ◌==◌, nat_lt}
 use Rattle.history.specs.declared.line.Line.{Line}
+use Rattle.history.specs.Operations.{operation_of}
 
 -- the number of a lowercase hexadecimal digit; 0 of any other byte
 unfoldable pub digit : ℕ → ℕ
@@ -14,28 +14,26 @@ spelt n (b ∷ bytes) = spelt (n * 16 + digit b) bytes
 
 -- the number that the digits from one place to another spell
 unfoldable pub field : ℕ → ℕ → List ℕ → ℕ
-field from to text = spelt 0 (slice from to text)
+field from to text = spelt 0 (slice_range text from to)
 
 -- what a line says; what has another length is no line
-unfoldable pub line_of : List ℕ → Line
+unfoldable pub line_of : List ℕ → Option Line
 line_of text =
     cond (length text == 31)
-    (record {
-      whole = true;
-      operation = field 0 2 text;
+    (Some (record {
+      operation = operation_of (field 0 2 text);
       set = field 2 4 text;
       a = field 4 6 text;
       b = field 6 8 text;
       times = field 10 14 text;
       number = field 14 30 text;
-    })
-    (record { whole = false; operation = 0; set = 0; a = 0; b = 0; times = 0; number = 0 })
+    }))
+    None
 
 -- the line on the number after, as a u64 has it
 abbrev pub following : Line → Line
 following l =
     record {
-      whole = l.whole;
       operation = l.operation;
       set = l.set;
       a = l.a;

@@ -1,17 +1,18 @@
 // A line of a history: thirty lowercase hexadecimal digits and a newline.
-ghost use Rattle.std.specs.Prelude.{◌≡◌, ◌+◌, ◌/◌, ◌%◌, ◌^◌, ◌<◌, ◌≤◌, length, take, drop, Some, IfSome, IfOk, OnOk, OnErr};
+ghost use Rattle.std.specs.Prelude.{◌≡◌, ◌+◌, ◌/◌, ◌%◌, ◌^◌, ◌<◌, ◌≤◌, length, take, drop, Some, ◌==◌, if◌then◌else◌, IfSome, IfOk, OnOk, OnErr};
 ghost use Rattle.std.specs.Io.KnownBytes.{Consumes, IsAtEnd};
+ghost use Rattle.history.specs.Operations.{is_dump};
 ghost use Rattle.history.specs.Reading.{LosesFewer};
-ghost use Rattle.history.specs.Lines.{digit, field, line_of, following, lower, upper};
+ghost use Rattle.history.specs.Lines.{digit, spelt, line_of, following, lower, upper};
 
+use crate::operation::Operation;
 use std::io;
 use std::io::Read;
 
-// It isn't whole where the input has ended.
+// What a line asks for, which is a code where the table has no such operation, and the other fields that a replay reads.
 #[derive(Clone, Copy)]
 pub struct Line {
-    pub whole: bool,
-    pub operation: usize,
+    pub operation: Result<Operation, usize>,
     pub set: usize,
     pub a: usize,
     pub b: usize,
@@ -31,46 +32,38 @@ fn digit(byte: u8) -> usize
     }
 }
 
-// The number that the digits from one place to another spell.
-fn field(text: &[u8], from: usize, to: usize) -> usize
-    requires { (to ≤ length text.now) × (to ≤ from + 16) }
-    ensures { result ≡ field from to text.now }
+// The number that digits spell.
+fn spelt(digits: &[u8]) -> usize
+    requires { length digits.now ≤ 16 }
+    ensures { result ≡ spelt 0 digits.now }
 {
     let mut number = 0;
-    for place in from..to {
-        number = number * 16 + digit(text[place]);
+    for byte in digits {
+        number = number * 16 + digit(*byte);
     }
     number
 }
 
-// What a line says.
-#[tactic(auto, unfolding(crate::specs::Lines::line_of))]
-pub fn parse(text: &[u8]) -> Line
+// What a line says; a text of another length is none.
+#[tactic(auto, unfolding(crate::specs::Lines::line_of, crate::specs::Lines::field))]
+pub fn parse(text: &[u8]) -> Option<Line>
     ensures { result ≡ line_of text.now }
 {
     if text.len() != 31 {
-        return Line {
-            whole: false,
-            operation: 0,
-            set: 0,
-            a: 0,
-            b: 0,
-            times: 0,
-            number: 0,
-        };
+        return None;
     }
-    Line {
-        whole: true,
-        operation: field(text, 0, 2),
-        set: field(text, 2, 4),
-        a: field(text, 4, 6),
-        b: field(text, 6, 8),
-        times: field(text, 10, 14),
-        number: field(text, 14, 30),
-    }
+    Some(Line {
+        operation: Operation::try_from(spelt(&text[0..2])),
+        set: spelt(&text[2..4]),
+        a: spelt(&text[4..6]),
+        b: spelt(&text[6..8]),
+        times: spelt(&text[10..14]),
+        number: spelt(&text[14..30]),
+    })
 }
 
-// Reads until the text is full or the input ends, and returns how many bytes stand at the text's start.
+// Reads until the text is full or the input ends, and returns how many bytes stand at the text's start. The library's
+// `read_exact` doesn't say what it has read where it fails, an input that ends too soon included.
 fn read_full<R: Read>(input: &mut R, text: &mut [u8]) -> io::Result<usize>
     ensures within { IfOk result (λ got. got ≤ length text.new) }
     ensures bytes { IfOk result (λ got. Consumes (R.remaining input.old) (R.remaining input.new) (take got text.new)) }
@@ -88,8 +81,8 @@ fn read_full<R: Read>(input: &mut R, text: &mut [u8]) -> io::Result<usize>
     Ok(got)
 }
 
-// The next line of the input.
-pub fn next<R: Read>(input: &mut R) -> io::Result<Line>
+// The next line of the input, if what is left has one.
+pub fn next<R: Read>(input: &mut R) -> io::Result<Option<Line>>
     ensures line { IfOk result (λ line. IfSome (R.remaining input.old) (λ bytes. line ≡ line_of (take 31 bytes))) }
     ensures rest { OnOk result (IfSome (R.remaining input.old) (λ bytes. R.remaining input.new ≡ Some (drop 31 bytes))) }
     ensures failed { OnErr result (LosesFewer 31 (R.remaining input.old) (R.remaining input.new)) }
@@ -122,7 +115,23 @@ impl Line {
         self
     }
 
-    // The lower and the higher of the two sets that the call isn't made on.
+    // Whether the members are asked for.
+    #[tactic(auto, unfolding(crate::specs::Operations::is_dump))]
+    pub fn is_dump(self) -> bool
+        ensures { result ≡ is_dump self.operation }
+    {
+        matches!(self.operation, Ok(Operation::Dump))
+    }
+
+    // An operand's buffer among those of the two sets that the call isn't made on, the lower one's first. Of the call's own set it
+    // is the second, which then nothing reads.
+    pub fn buffer<'a>(self, set: usize, first: &'a [u64], second: &'a [u64]) -> &'a [u64]
+        ensures { result.now ≡ (if set == lower self.set then first.now else second.now) }
+    {
+        if set == self.lower() { first } else { second }
+    }
+
+    // The lower of the two sets that the call isn't made on; below, the higher.
     #[tactic(auto, unfolding(crate::specs::Lines::lower))]
     pub fn lower(self) -> usize
         ensures { result ≡ lower self.set }

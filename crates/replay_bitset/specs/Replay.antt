@@ -1,72 +1,97 @@
 -- What a line of a history asks for, what its call leaves, and what is printed after it; oracle/README.md has the table of
 -- operations. Assumes nothing.
-use Rattle.std.specs.Prelude.{ℕ, ◌+◌, ◌%◌, ◌^◌, min, List, [], ◌∷◌, ◌++◌, get_or, set, take, ◌==◌, nat_lt, if◌then◌else◌}
+use Rattle.std.specs.Prelude.{ℕ, Bool, true, false, min, List, [], ◌∷◌, ◌++◌, length, set, slice_index, take, Some, Result, Ok, Err, ◌==◌, nat_lt, if◌then◌else◌}
 use Rattle.std.specs.List.{flat_map}
 use Rattle.words.specs.Words.{members}
-use Rattle.answers.specs.declared.Answer.{Answer}
-use Rattle.answers.specs.declared.TheConstants.{LENGTH}
-use Rattle.answers.specs.Judging.{earlier}
-use Rattle.history.specs.Fields.{hexadecimal, member_line}
-use Rattle.history.specs.declared.TheConstants.{UNKNOWN}
+use Rattle.answers.specs.Answers.{Answer, number as refusal_number}
+use Rattle.answers.specs.declared.Refusal.TheVariants.{Length}
+use Rattle.history.specs.Faults.{number, answer_of}
+use Rattle.history.specs.Fields.{answer_fields, member_line}
+use Rattle.history.specs.Lines.{lower}
+use Rattle.history.specs.Operations.{is_dump}
+use Rattle.history.specs.States.{header_of as header}
+use Rattle.history.specs.declared.fault.Fault.TheVariants.{Unknown}
 use Rattle.history.specs.declared.line.Line.{Line}
+use Rattle.history.specs.declared.operation.Operation.{Operation}
+use Rattle.history.specs.declared.operation.Operation.TheVariants.{New, Insert, Remove, Toggle, Contains, Len, Clear, Xor, IntersectionCount, XorIntersection, XorSymmetricDifference, IsEmpty, Eq, Dump, Push, FlipList, FlipListShared, CountList, TakeClearing, SetSingle}
+use Rattle.history.specs.declared.state.State.{State}
 use Rattle.bitset.specs.declared.BitSet.{BitSet}
 use Rattle.bitset.specs.Calls.{Bytes, Outcome, refused, bytes_of, preparing, inserting, removing, toggling, clearing, xoring, xoring_shared, xoring_unshared, flipping, flipping_shared, containing, counting, emptiness, counting_shared, counting_entries, comparing}
-use Rattle.replay_bitset.specs.declared.State.{State}
 
 -- the header of one of the three sets; one above 2 counts as 2
-abbrev pub header_of : State → ℕ → BitSet
-header_of s place = get_or s.sets (min place 2) (record { span = 0 })
+abbrev pub header_of : State BitSet → ℕ → BitSet
+header_of s place = header (record { span = 0 }) s place
 
 -- what a read leaves: its answer, and the bytes as they were
 abbrev pub reading : Answer → Bytes → Outcome
 reading answer b = record { answer = answer; bytes = b }
 
--- what the call that a line names leaves: the set is over these words, the operands are over a and b, and a read of two sets may
--- be of one set twice. The slice forms take the list. What a BitSet doesn't have, a push too, is refused and changes nothing
-unfoldable pub asked : Line → State → List ℕ → List ℕ → List ℕ → List ℕ → Outcome
-asked line s words a b list =
-    let target = bytes_of (header_of s line.set) words in
-    let first = bytes_of (header_of s line.a) a in
-    let second = bytes_of (header_of s line.b) b in
-    let operand = if line.a == line.set then target else first in
-    let code = line.operation in
-    if code == 0x00 then preparing words
-    else if code == 0x01 then inserting line.number target
-    else if code == 0x02 then removing line.number target
-    else if code == 0x03 then toggling line.number target
-    else if code == 0x04 then reading (containing line.number target) target
-    else if code == 0x05 then reading (counting target) target
-    else if code == 0x06 then clearing target
-    else if code == 0x07 then xoring target first
-    else if code == 0x08 then reading (counting_shared target operand) target
-    else if code == 0x09 then xoring_shared target first second
-    else if code == 0x0a then xoring_unshared target first second
-    else if code == 0x0c then reading (emptiness target) target
-    else if code == 0x0d then reading (comparing target operand) target
-    else if code == 0x0e then reading (counting target) target
-    else if code == 0x11 then flipping list target
-    else if code == 0x12 then flipping_shared list target first
-    else if code == 0x13 then reading (counting_entries list target) target
-    else refused UNKNOWN target
+-- a push on a list that is full is refused for its length; it leaves the bytes as they were
+abbrev pub pushing : List ℕ → Bytes → Outcome
+pushing list b = if nat_lt (length list) 16384 then reading (record { number = 0; value = 0 }) b else refused (refusal_number Length) b
 
--- the state after a call that left an outcome of a line's set: the values are added, as a u64 has them, the number is kept where
--- it refuses, and the slice forms, with codes above 0x10, empty the list
-unfoldable pub followed : Line → State → Outcome → State
-followed line s o =
-    record s {
-      sets = set s.sets (min line.set 2) (record { span = o.bytes.span });
-      entries = if nat_lt 0x10 line.operation then 0 else s.entries;
-      value = (s.value + o.answer.value) % 2 ^ 64;
-      number = if o.answer.number == 0 then s.number else o.answer.number;
-    }
+-- what a call on a target leaves, whose number is given: the two operands, of which a read may have the target as the first, and
+-- the list, which the slice forms take. What a BitSet doesn't have is refused and changes nothing
+unfoldable pub calling : Result Operation ℕ → ℕ → Bytes → Bytes → Bytes → Bytes → List ℕ → Outcome
+calling (Ok New) i b other o p list = preparing b.words
+calling (Ok Insert) i b other o p list = inserting i b
+calling (Ok Remove) i b other o p list = removing i b
+calling (Ok Toggle) i b other o p list = toggling i b
+calling (Ok Contains) i b other o p list = reading (containing i b) b
+calling (Ok Len) i b other o p list = reading (counting b) b
+calling (Ok Clear) i b other o p list = clearing b
+calling (Ok Xor) i b other o p list = xoring b o
+calling (Ok IntersectionCount) i b other o p list = reading (counting_shared b other) b
+calling (Ok XorIntersection) i b other o p list = xoring_shared b o p
+calling (Ok XorSymmetricDifference) i b other o p list = xoring_unshared b o p
+calling (Ok IsEmpty) i b other o p list = reading (emptiness b) b
+calling (Ok Eq) i b other o p list = reading (comparing b other) b
+calling (Ok Dump) i b other o p list = reading (counting b) b
+calling (Ok Push) i b other o p list = pushing list b
+calling (Ok FlipList) i b other o p list = flipping list b
+calling (Ok FlipListShared) i b other o p list = flipping_shared list b o
+calling (Ok CountList) i b other o p list = reading (counting_entries list b) b
+calling (Ok TakeClearing) i b other o p list = refused (number Unknown) b
+calling (Ok SetSingle) i b other o p list = refused (number Unknown) b
+calling (Err code) i b other o p list = refused (number Unknown) b
 
--- the state after a push on a list with so much room: one entry more, or the refusal of a length where the list is full
-unfoldable pub pushed : State → ℕ → State
-pushed s room = if nat_lt s.entries room then record s { entries = s.entries + 1 } else record s { number = LENGTH }
+-- what the call that a line names leaves of a set, with two operands
+abbrev pub asked : Line → Bytes → Bytes → Bytes → List ℕ → Outcome
+asked line b o p list = calling line.operation line.number b (if line.a == line.set then b else o) o p list
 
--- the list after a line's call: a push (0x10) puts the line's number behind the entries, where there is room
-unfoldable pub listed : Line → State → List ℕ → List ℕ
-listed line s list = if line.operation == 0x10 then set list s.entries line.number else list
+-- the same of the sets that the line names, over their words
+abbrev pub call : Line → State BitSet → List ℕ → List ℕ → List ℕ → List ℕ → Outcome
+call line s words a b list =
+    asked line (bytes_of (header_of s line.set) words) (bytes_of (header_of s line.a) a) (bytes_of (header_of s line.b) b) list
+
+-- whether a call leaves the list empty: the slice forms do, and all that has a code above theirs; 0x10 is a push's
+unfoldable pub takes_list : Result Operation ℕ → Bool
+takes_list (Ok FlipList) = true
+takes_list (Ok FlipListShared) = true
+takes_list (Ok CountList) = true
+takes_list (Ok TakeClearing) = true
+takes_list (Ok SetSingle) = true
+takes_list (Ok _) = false
+takes_list (Err code) = nat_lt 0x10 code
+
+-- the list after a push, which puts the line's number behind the entries where there is room; any other call keeps it
+unfoldable pub pushed : Result Operation ℕ → ℕ → List ℕ → List ℕ
+pushed (Ok Push) i list = if nat_lt (length list) 16384 then list ++ i ∷ [] else list
+pushed (Ok _) i list = list
+pushed (Err _) i list = list
+
+-- the list after a line's call
+abbrev pub listed : Line → List ℕ → List ℕ
+listed line list = if takes_list line.operation then [] else pushed line.operation line.number list
+
+-- of the buffers of the two other sets, the lower set's first, what is lent to one of them
+abbrev pub operand : Line → State BitSet → ℕ → List ℕ → List ℕ → List ℕ
+operand line s place first second =
+    let buffer = if place == lower line.set then first else second in take (min (slice_index s.lent (min place 2)) (length buffer)) buffer
+
+-- the headers with another one for a set
+abbrev pub with_header : List BitSet → ℕ → Bytes → List BitSet
+with_header sets place b = set sets (min place 2) (record { span = b.span })
 
 -- the members of a set, a line each; no set is lent more than 8,192 words
 abbrev pub member_lines : List ℕ → List ℕ
@@ -74,16 +99,10 @@ member_lines words = flat_map member_line (members (take 8192 words))
 
 -- the lines of members before the answer's, which a dump alone has
 unfoldable pub dump : Line → List ℕ → List ℕ
-dump line words = if line.operation == 0x0e then member_lines words else []
-
--- the fields of the answer: value, count and span, or the number alone where a call was refused
-unfoldable pub answer_fields : State → BitSet → Answer → List ℕ
-answer_fields s own count =
-    let number = earlier s.number count.number in
-    if number == 0 then hexadecimal 16 s.value ++ hexadecimal 6 count.value ++ hexadecimal 4 own.span else hexadecimal 2 number
+dump line words = if is_dump line.operation then member_lines words else []
 
 -- what is printed after a line's calls, whose set is over these words
-unfoldable pub printed : Line → State → List ℕ → List ℕ
+unfoldable pub printed : Line → State BitSet → List ℕ → List ℕ
 printed line s words =
     let own = header_of s line.set in
-    dump line words ++ answer_fields s own (counting (bytes_of own words)) ++ 10 ∷ []
+    dump line words ++ answer_fields (answer_of s.answer) (counting (bytes_of own words)) (Some own.span) ++ 10 ∷ []

@@ -1,129 +1,141 @@
-// The calls that a line names by its operation's code.
-ghost use Rattle.std.specs.Prelude.{◌≡◌, ℕ, List, ◌≢◌, length, take, slice_set};
-ghost use Rattle.bitset.specs.Calls.{left};
-ghost use Rattle.replay_bitset.specs.Replay.{header_of, asked, followed, pushed, listed};
+// The calls that a line names.
+ghost use Rattle.std.specs.Prelude.{◌≡◌};
+ghost use Rattle.history.specs.Faults.{answer_of};
+ghost use Rattle.history.specs.States.{Followed};
+ghost use Rattle.bitset.specs.Calls.{bytes_of, lent_bytes};
+ghost use Rattle.replay_bitset.specs.Replay.{asked, call, with_header, takes_list, pushed, listed};
 
-use crate::State;
-use answers::Answer;
-use answers::give::refusal;
-use bitset::{BitSet, Reply};
-use history::UNKNOWN;
+use answers::Refusal;
+use arrayvec::ArrayVec;
+use bitset::indices::ENTRIES;
+use bitset::{BitSet, Lent};
+use history::fault::Fault;
 use history::line::Line;
-use words::row::shorter;
+use history::operation::Operation;
+use history::state::State;
 
-// A set above 2, which no history names, counts as 2.
-pub fn header(state: State, set: usize) -> BitSet
-    ensures { result ≡ header_of state set }
-{
-    let place = shorter(set, 2);
-    state.sets[place]
-}
+pub type List = ArrayVec<usize, ENTRIES>;
 
-fn read(answer: Answer, set: BitSet) -> Reply
-    ensures { result ≡ record { answer = answer; set = set } }
+// The call itself, on a set over its words. A read may have its target as the operand, too. A call that is refused leaves the
+// header as it was; `new` leaves a fresh one.
+#[tactic(auto, unfolding(crate::specs::Replay::calling, crate::specs::Replay::pushed, bitset::specs::Calls::left, bitset::specs::Calls::bytes_of, bitset::specs::Calls::refused, history::specs::Faults::answer_of, history::specs::Faults::number, answers::specs::Answers::answer_of, answers::specs::Answers::number, answers::specs::Answers::truth, words::specs::Sets::pick))]
+fn serve(
+    line: Line,
+    set: &mut BitSet,
+    words: &mut [u64],
+    first: Lent<'_>,
+    second: Lent<'_>,
+    list: &mut List,
+) -> Result<u64, Fault>
+    ensures answer { answer_of result ≡ (asked line (bytes_of set.old words.old) (lent_bytes first.entry) (lent_bytes second.entry) list.old.items).answer }
+    ensures span { set.new.span ≡ (asked line (bytes_of set.old words.old) (lent_bytes first.entry) (lent_bytes second.entry) list.old.items).bytes.span }
+    ensures words { words.new ≡ (asked line (bytes_of set.old words.old) (lent_bytes first.entry) (lent_bytes second.entry) list.old.items).bytes.words }
+    ensures list { list.new.items ≡ pushed line.operation line.number list.old.items }
 {
-    Reply { answer, set }
-}
-
-// The call itself. `a` and `b` are the operands' words; a read may have its target as the operand, too.
-#[tactic(auto, unfolding(crate::specs::Replay::asked, bitset::specs::Calls::left, bitset::specs::Calls::bytes_of, bitset::specs::Calls::refused))]
-fn serve(line: Line, state: State, words: &mut [u64], a: &[u64], b: &[u64], list: &[usize]) -> Reply
-    ensures { left result words.new ≡ asked line state words.old a.now b.now list.now }
-{
-    let set = header(state, line.set);
-    let first = header(state, line.a);
-    let second = header(state, line.b);
-    let itself = line.a == line.set;
     let index = line.number;
-    let operation = line.operation;
+    Ok(match line.operation {
+        Ok(Operation::New) => {
+            *set = BitSet { span: 0 };
+            *set = BitSet::new(words)?;
+            0
+        }
+        Ok(Operation::Insert) => {
+            let (header, is_new) = set.insert(words, index)?;
+            *set = header;
+            u64::from(is_new)
+        }
+        Ok(Operation::Remove) => {
+            let (header, was_present) = set.remove(words, index)?;
+            *set = header;
+            u64::from(was_present)
+        }
+        Ok(Operation::Toggle) => {
+            let (header, is_present) = set.toggle(words, index)?;
+            *set = header;
+            u64::from(is_present)
+        }
+        Ok(Operation::Contains) => u64::from(set.over(words).contains(index)?),
+        Ok(Operation::Len | Operation::Dump) => set.over(words).len()? as u64,
+        Ok(Operation::Clear) => {
+            *set = set.clear(words)?;
+            0
+        }
+        Ok(Operation::Xor) => {
+            *set = set.symmetric_difference_update(words, first)?;
+            0
+        }
+        Ok(Operation::IntersectionCount) => {
+            let own = set.over(words);
+            let other = if line.a == line.set { own } else { first };
+            own.intersection_count(other)? as u64
+        }
+        Ok(Operation::XorIntersection) => {
+            *set = first.xor_intersection_into(second, *set, words)?;
+            0
+        }
+        Ok(Operation::XorSymmetricDifference) => {
+            *set = first.xor_symmetric_difference_into(second, *set, words)?;
+            0
+        }
+        Ok(Operation::IsEmpty) => u64::from(set.over(words).is_empty()?),
+        Ok(Operation::Eq) => {
+            let own = set.over(words);
+            let other = if line.a == line.set { own } else { first };
+            u64::from(own.eq(other)?)
+        }
+        Ok(Operation::Push) => {
+            list.try_push(index).map_err(|_| Refusal::Length)?;
+            0
+        }
+        Ok(Operation::FlipList) => {
+            *set = set.xor_assign_slice(words, list.as_slice())?;
+            0
+        }
+        Ok(Operation::FlipListShared) => {
+            *set = set.xor_intersection_slice(words, list.as_slice(), first)?;
+            0
+        }
+        Ok(Operation::CountList) => set
+            .over(words)
+            .intersection_count_slice(list.as_slice())? as u64,
+        Ok(Operation::TakeClearing | Operation::SetSingle) | Err(_) => return Err(Fault::Unknown),
+    })
+}
+
+// Whether a call leaves the list empty: the slice forms do, which take it, and so does all that has a code above theirs, in the
+// table or not. A push has 0x10.
+#[tactic(auto, unfolding(crate::specs::Replay::takes_list))]
+fn takes_list(operation: Result<Operation, usize>) -> bool
+    ensures { result ≡ takes_list operation }
+{
     match operation {
-        0x00 => BitSet::new(words),
-        0x01 => set.insert(words, index),
-        0x02 => set.remove(words, index),
-        0x03 => set.toggle(words, index),
-        0x04 => read(set.contains(words, index), set),
-        0x05 | 0x0e => read(set.len(words), set),
-        0x06 => set.clear(words),
-        0x07 => set.symmetric_difference_update(words, first, a),
-        0x08 => {
-            if itself {
-                read(set.intersection_count(words, set, words), set)
-            } else {
-                read(set.intersection_count(words, first, a), set)
-            }
-        }
-        0x09 => first.xor_intersection_into(a, second, b, set, words),
-        0x0a => first.xor_symmetric_difference_into(a, second, b, set, words),
-        0x0c => read(set.is_empty(words), set),
-        0x0d => {
-            if itself {
-                read(set.eq(words, set, words), set)
-            } else {
-                read(set.eq(words, first, a), set)
-            }
-        }
-        0x11 => set.xor_assign_slice(words, list),
-        0x12 => set.xor_intersection_slice(words, list, first, a),
-        0x13 => read(set.intersection_count_slice(words, list), set),
-        _ => read(refusal(UNKNOWN), set),
+        Ok(operation) => operation > Operation::Push,
+        Err(code) => code > 0x10,
     }
-}
-
-// Puts the line's number at the end of the list. A list longer than the port takes is refused.
-#[tactic(auto, unfolding(crate::specs::Replay::pushed))]
-fn push(line: Line, mut state: State, list: &mut [usize]) -> State
-    ensures state { result ≡ pushed state (length list.old) }
-    ensures list { list.new ≡ slice_set list.old state.entries line.number }
-{
-    let entries = state.entries;
-    if list.len() <= entries {
-        state.number = answers::LENGTH;
-        return state;
-    }
-    list[entries] = line.number;
-    state.entries = entries + 1;
-    state
-}
-
-// The state after any other call. The slice forms, with codes above 0x10, take the list.
-#[tactic(auto, unfolding(crate::specs::Replay::followed, bitset::specs::Calls::left))]
-fn after(line: Line, mut state: State, reply: Reply) -> State
-    ensures { (words : List ℕ) → result ≡ followed line state (left reply words) }
-{
-    let place = shorter(line.set, 2);
-    let set = reply.set;
-    state.sets[place] = set;
-    if line.operation > 0x10 {
-        state.entries = 0;
-    }
-    if reply.answer.number != answers::SERVED {
-        state.number = reply.answer.number;
-    }
-    state.value = state.value.wrapping_add(reply.answer.value);
-    state
 }
 
 // One call, over words that are lent.
-#[tactic(auto, unfolding(crate::specs::Replay::listed))]
+#[tactic(auto, unfolding(bitset::specs::Calls::bytes_of, history::specs::States::header_of))]
 pub fn make(
     line: Line,
-    state: State,
+    state: &mut State<BitSet>,
     words: &mut [u64],
     a: &[u64],
     b: &[u64],
-    list: &mut [usize],
-) -> State
-    ensures pushed { line.operation ≡ 0x10 → result ≡ pushed state (length list.old) }
-    ensures called { line.operation ≢ 0x10
-        → result ≡ followed line state (asked line state words.old a.now b.now (take state.entries list.old)) }
-    ensures words { words.new ≡ (asked line state words.old a.now b.now (take state.entries list.old)).bytes.words }
-    ensures list { list.new ≡ listed line state list.old }
+    list: &mut List,
+)
+    ensures state { let o = call line state.old words.old a.now b.now list.old.items in
+        Followed state.old (with_header state.old.sets line.set o.bytes) o.answer state.new }
+    ensures words { words.new ≡ (call line state.old words.old a.now b.now list.old.items).bytes.words }
+    ensures list { list.new.items ≡ listed line list.old.items }
 {
-    if line.operation == 0x10 {
-        return push(line, state, list);
+    let first = state.header(line.a).over(a);
+    let second = state.header(line.b).over(b);
+    let mut set = state.header(line.set);
+    let answer = serve(line, &mut set, words, first, second, list);
+    if takes_list(line.operation) {
+        list.clear();
     }
-    let start = 0;
-    let end = shorter(state.entries, list.len());
-    let reply = serve(line, state, words, a, b, &list[start..end]);
-    after(line, state, reply)
+    state.put(line.set, set);
+    state.add(answer);
 }

@@ -1,149 +1,149 @@
-// The calls that a line names by its operation's code.
+// The calls that a line names.
 ghost use Rattle.std.specs.Prelude.{◌≡◌};
-ghost use Rattle.sorted_vec_set.specs.Calls.{left};
-ghost use Rattle.replay_sorted_vec_set.specs.Replay.{header_of, operand_elements, asked, handing, with_header, with_answer, followed_handing, making};
+ghost use Rattle.history.specs.Faults.{answer_of};
+ghost use Rattle.history.specs.States.{Followed};
+ghost use Rattle.sorted_vec_set.specs.Calls.{bytes_of, lent_bytes};
+ghost use Rattle.replay_sorted_vec_set.specs.Replay.{asked, handing, with_header, hands_over, making};
 
-use crate::State;
-use answers::Answer;
-use answers::give::refusal;
-use history::UNKNOWN;
+use history::fault::Fault;
 use history::line::Line;
-use sorted_vec_set::{Reply, SortedVecSet};
-use words::row::shorter;
+use history::operation::Operation;
+use history::state::State;
+use sorted_vec_set::{Lent, SortedVecSet};
 
-// A set above 2, which no history names, counts as 2.
-#[tactic(auto, unfolding(crate::specs::Replay::header_of))]
-pub fn header(state: State, set: usize) -> SortedVecSet
-    ensures { result ≡ header_of state set }
-{
-    let place = shorter(set, 2);
-    state.sets[place]
-}
-
-fn read(answer: Answer, set: SortedVecSet) -> Reply
-    ensures { result ≡ record { answer = answer; set = set } }
-{
-    Reply { answer, set }
-}
-
-// The call itself, where it writes one set at most. `a` and `b` are the operands' elements; a read may have its target as
-// the operand, too.
-#[tactic(auto, unfolding(crate::specs::Replay::asked, sorted_vec_set::specs::Calls::left, sorted_vec_set::specs::Calls::bytes_of, sorted_vec_set::specs::Calls::refused))]
-fn serve(line: Line, state: State, elements: &mut [u64], a: &[u64], b: &[u64]) -> Reply
-    ensures { left result elements.new ≡ asked line state elements.old a.now b.now }
-{
-    let set = header(state, line.set);
-    let first = header(state, line.a);
-    let second = header(state, line.b);
-    let itself = line.a == line.set;
-    let element = line.number as u64;
-    let operation = line.operation;
-    match operation {
-        0x00 => SortedVecSet::new(elements),
-        0x01 => set.insert(elements, element),
-        0x02 => set.remove(elements, element),
-        0x03 => set.toggle(elements, element),
-        0x04 => read(set.contains(elements, element), set),
-        0x05 | 0x0e => read(set.len(elements), set),
-        0x06 => set.clear(elements),
-        0x07 => set.xor_assign(elements, first, a),
-        0x08 => {
-            if itself {
-                read(set.intersection_count(elements, set, elements), set)
-            } else {
-                read(set.intersection_count(elements, first, a), set)
-            }
-        }
-        0x09 => first.xor_intersection_into(a, second, b, set, elements),
-        0x0a => first.xor_symmetric_difference_into(a, second, b, set, elements),
-        0x0c => read(set.is_empty(elements), set),
-        0x0d => {
-            if itself {
-                read(set.eq(elements, set, elements), set)
-            } else {
-                read(set.eq(elements, first, a), set)
-            }
-        }
-        0x15 => set.set_single(elements, element),
-        _ => read(refusal(UNKNOWN), set),
-    }
-}
-
-// Tells the operands' elements among those of the two other sets. Where an operand is the target, or a call has none,
-// nothing uses what is found.
-fn serve_among<'a>(
+// The call itself, where it writes one set at most, on a set over its elements. A read may have its target as the operand, too.
+// A call that is refused leaves the header as it was; `new` leaves a fresh one.
+#[tactic(auto, unfolding(crate::specs::Replay::calling, sorted_vec_set::specs::Calls::left, sorted_vec_set::specs::Calls::bytes_of, sorted_vec_set::specs::Calls::refused, history::specs::Faults::answer_of, history::specs::Faults::number, answers::specs::Answers::answer_of, answers::specs::Answers::number, answers::specs::Answers::truth, words::specs::Sets::pick))]
+fn serve(
     line: Line,
-    state: State,
+    set: &mut SortedVecSet,
     elements: &mut [u64],
-    first: &'a [u64],
-    second: &'a [u64],
-) -> Reply
-    ensures { let a = operand_elements line line.a first.now second.now in
-        let b = operand_elements line line.b first.now second.now in
-        left result elements.new ≡ asked line state elements.old a b }
+    first: Lent<'_>,
+    second: Lent<'_>,
+) -> Result<u64, Fault>
+    ensures answer { answer_of result ≡ (asked line (bytes_of set.old elements.old) (lent_bytes first.entry) (lent_bytes second.entry)).answer }
+    ensures count { set.new.count ≡ (asked line (bytes_of set.old elements.old) (lent_bytes first.entry) (lent_bytes second.entry)).bytes.count }
+    ensures elements { elements.new ≡ (asked line (bytes_of set.old elements.old) (lent_bytes first.entry) (lent_bytes second.entry)).bytes.elements }
 {
-    let lower = line.lower();
-    let a = if line.a == lower { first } else { second };
-    let b = if line.b == lower { first } else { second };
-    serve(line, state, elements, a, b)
-}
-
-// The state after an answer.
-#[tactic(auto, unfolding(crate::specs::Replay::with_answer))]
-fn after(mut state: State, answer: Answer) -> State
-    ensures { result ≡ with_answer state answer }
-{
-    if answer.number != answers::SERVED {
-        state.number = answer.number;
-    }
-    state.value = state.value.wrapping_add(answer.value);
-    state
-}
-
-#[tactic(auto, unfolding(crate::specs::Replay::with_header))]
-fn put(mut state: State, set: usize, header: SortedVecSet) -> State
-    ensures { result ≡ with_header state set header }
-{
-    let place = shorter(set, 2);
-    state.sets[place] = header;
-    state
+    let element = line.number as u64;
+    Ok(match line.operation {
+        Ok(Operation::New) => {
+            *set = SortedVecSet { count: 0 };
+            *set = SortedVecSet::new(elements)?;
+            0
+        }
+        Ok(Operation::Insert) => {
+            let (header, is_new) = set.insert(elements, element)?;
+            *set = header;
+            u64::from(is_new)
+        }
+        Ok(Operation::Remove) => {
+            let (header, was_present) = set.remove(elements, element)?;
+            *set = header;
+            u64::from(was_present)
+        }
+        Ok(Operation::Toggle) => {
+            *set = set.toggle(elements, element)?;
+            0
+        }
+        Ok(Operation::Contains) => u64::from(set.over(elements).contains(element)?),
+        Ok(Operation::Len | Operation::Dump) => set.over(elements).len()? as u64,
+        Ok(Operation::Clear) => {
+            *set = set.clear(elements)?;
+            0
+        }
+        Ok(Operation::Xor) => {
+            *set = set.xor_assign(elements, first)?;
+            0
+        }
+        Ok(Operation::IntersectionCount) => {
+            let own = set.over(elements);
+            let other = if line.a == line.set { own } else { first };
+            own.intersection_count(other)? as u64
+        }
+        Ok(Operation::XorIntersection) => {
+            *set = first.xor_intersection_into(second, *set, elements)?;
+            0
+        }
+        Ok(Operation::XorSymmetricDifference) => {
+            *set = first.xor_symmetric_difference_into(second, *set, elements)?;
+            0
+        }
+        Ok(Operation::IsEmpty) => u64::from(set.over(elements).is_empty()?),
+        Ok(Operation::Eq) => {
+            let own = set.over(elements);
+            let other = if line.a == line.set { own } else { first };
+            u64::from(own.eq(other)?)
+        }
+        Ok(Operation::SetSingle) => {
+            *set = set.set_single(elements, element)?;
+            0
+        }
+        Ok(
+            Operation::Push
+            | Operation::FlipList
+            | Operation::FlipListShared
+            | Operation::CountList
+            | Operation::TakeClearing,
+        )
+        | Err(_) => return Err(Fault::Unknown),
+    })
 }
 
 // Hands the target's elements over to another set, which is written, too.
-#[tactic(auto, unfolding(sorted_vec_set::specs::Calls::bytes_of, sorted_vec_set::specs::Calls::handed))]
-fn take(line: Line, state: State, elements: &mut [u64], others: &mut [u64]) -> State
-    ensures state { result ≡ followed_handing line state (handing line state elements.old others.old) }
-    ensures elements { elements.new ≡ (handing line state elements.old others.old).from.elements }
-    ensures others { others.new ≡ (handing line state elements.old others.old).to.elements }
+#[tactic(auto, unfolding(sorted_vec_set::specs::Calls::bytes_of, sorted_vec_set::specs::Calls::handed, history::specs::States::header_of, history::specs::Faults::answer_of, history::specs::Faults::number))]
+fn take(line: Line, state: &mut State<SortedVecSet>, elements: &mut [u64], others: &mut [u64])
+    ensures state { let h = handing line state.old elements.old others.old in
+        Followed state.old (with_header (with_header state.old.sets line.set h.from) line.a h.to) h.answer state.new }
+    ensures elements { elements.new ≡ (handing line state.old elements.old others.old).from.elements }
+    ensures others { others.new ≡ (handing line state.old elements.old others.old).to.elements }
 {
-    let set = header(state, line.set);
-    let other = header(state, line.a);
-    let taken = set.take_clearing(elements, other, others);
-    let state = put(state, line.set, taken.set);
-    let state = put(state, line.a, taken.other);
-    after(state, taken.answer)
+    let set = state.header(line.set);
+    let other = state.header(line.a);
+    let given = set.take_clearing(elements, other, others);
+    let (set, other) = given.unwrap_or((set, other));
+    state.put(line.set, set);
+    state.put(line.a, other);
+    state.add(given.map(|_| 0).map_err(Fault::from));
 }
 
-// One call, over elements that are lent.
-#[tactic(auto, unfolding(crate::specs::Replay::making, sorted_vec_set::specs::Calls::left))]
+#[tactic(auto, unfolding(crate::specs::Replay::hands_over))]
+fn hands_over(operation: Result<Operation, usize>) -> bool
+    ensures { result ≡ hands_over operation }
+{
+    matches!(operation, Ok(Operation::TakeClearing))
+}
+
+// One call, over elements that are lent; of the two other sets, the lower one's first.
+#[tactic(auto, unfolding(sorted_vec_set::specs::Calls::bytes_of, history::specs::States::header_of))]
 pub fn make(
     line: Line,
-    state: State,
+    state: &mut State<SortedVecSet>,
     elements: &mut [u64],
     first: &mut [u64],
     second: &mut [u64],
-) -> State
-    ensures state { result ≡ (making line state elements.old first.old second.old).state }
-    ensures elements { elements.new ≡ (making line state elements.old first.old second.old).elements }
-    ensures first { first.new ≡ (making line state elements.old first.old second.old).first }
-    ensures second { second.new ≡ (making line state elements.old first.old second.old).second }
+)
+    ensures state { let made = making line state.old elements.old first.old second.old in Followed state.old made.sets made.answer state.new }
+    ensures elements { elements.new ≡ (making line state.old elements.old first.old second.old).elements }
+    ensures first { first.new ≡ (making line state.old elements.old first.old second.old).first }
+    ensures second { second.new ≡ (making line state.old elements.old first.old second.old).second }
 {
-    if line.operation == 0x14 {
+    if hands_over(line.operation) {
         if line.a == line.lower() {
-            return take(line, state, elements, first);
+            take(line, state, elements, first);
+        } else {
+            take(line, state, elements, second);
         }
-        return take(line, state, elements, second);
+        return;
     }
-    let reply = serve_among(line, state, elements, first, second);
-    after(put(state, line.set, reply.set), reply.answer)
+    let a = state
+        .header(line.a)
+        .over(line.buffer(line.a, first, second));
+    let b = state
+        .header(line.b)
+        .over(line.buffer(line.b, first, second));
+    let mut set = state.header(line.set);
+    let answer = serve(line, &mut set, elements, a, b);
+    state.put(line.set, set);
+    state.add(answer);
 }

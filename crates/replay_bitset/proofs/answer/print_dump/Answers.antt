@@ -1,8 +1,9 @@
 use Rattle.std.proofs.Common.{◌≡◌, ◌*◌, min, length, sym, ◌∙◌, arith}
 use Rattle.std.proofs.KnownBytes.{Appends-nil, Appends-trans}
+use Rattle.replay_bitset.specs.Replay.{dump}
 use Rattle.replay_bitset.proofs.PrintLaws.{present, lines_more, lines_same, members-present}
-use Rattle.replay_bitset.proofs.answer.print_members.Goals as goal
-use Rattle.replay_bitset.proofs.answer.print_members.Goals.{then-contains+in_ok-print_member, else-contains}
+use Rattle.replay_bitset.proofs.answer.print_dump.Goals as goal
+use Rattle.replay_bitset.proofs.answer.print_dump.Goals.{then-contains+in_ok-print_member, else-contains}
 
 pub loop-index-init : goal.loop-index-init
 unfolding present
@@ -22,6 +23,7 @@ loop-index-preserved g c =
 
 -- the loop has gone over all indices of the words
 pub returns : goal.returns
+unfolding dump
 returns g c =
     let end : c.loop-index.index ≡ 64 * min (length c.args.words.now) 8192 = omega arith in
-    rw (members-present c.args.words.now 8192, ← end) c.loop-index.invariant
+    rw (← c.if-not-is_dump.ensures, members-present c.args.words.now 8192, ← end) c.loop-index.invariant

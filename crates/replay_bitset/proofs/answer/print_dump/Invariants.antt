@@ -2,7 +2,7 @@ use Rattle.std.proofs.Common.{flat_map}
 use Rattle.std.specs.Io.KnownBytes.{Appends}
 use Rattle.history.specs.Fields.{member_line}
 use Rattle.replay_bitset.proofs.PrintLaws.{present}
-use Rattle.replay_bitset.proofs.answer.print_members.Given as goal
+use Rattle.replay_bitset.proofs.answer.print_dump.Given as goal
 
 -- the members below the index have been printed
 abbrev pub invariant-loop-index : goal.invariant-loop-index
