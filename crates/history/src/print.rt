@@ -40,7 +40,7 @@ pub fn print_answer<W: Write>(out: &mut W, value: u64, count: u64) -> io::Result
     print_field(out, count, 6)
 }
 
-// Of a refusal the number alone, which is no recorded answer.
+// Of a refusal the number alone, which is no recorded answer. It is promised of any number.
 pub fn print_refusal<W: Write>(out: &mut W, number: u8) -> io::Result<()>
     ensures { OnOk result (Appends (W.contents out.old) (W.contents out.new) (hexadecimal 2 number)) }
 {
