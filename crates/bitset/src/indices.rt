@@ -83,12 +83,14 @@ pub fn flip_shared(words: &mut [u64], indices: &[usize], other: &[u64])
     }
 }
 
-// How many entries of a list the words have.
+// How many entries of a list the words have. Each answer is added up: a `filter` leaves at each entry that the words have, and with
+// members that can't be foreseen takes five times as long.
 pub fn count(words: &[u64], indices: &[usize]) -> usize
     ensures { result ≡ length (entries (at words.now) indices.now) }
 {
-    indices
-        .iter()
-        .filter(|index| contains(words, **index))
-        .count()
+    let mut n = 0;
+    for index in indices {
+        n += usize::from(contains(words, *index));
+    }
+    n
 }
