@@ -11,7 +11,7 @@ use lib.Bits.{bit_or, bit_xor}
 use lib.Dec.{eqb}
 use lib.ListN.{length, get_or, set, take, drop, get_or-eq_default, length-take, length-drop, length-set, drop_of_length-le, take-append-drop}
 use lib.Seq.{drop-cons, take_all, take-suc, length-take-le, set_at, append_snoc, take-suc-set, drop-set-lt}
-use borrow.Author.Tests.{ne_eqb}
+use borrow.Author.Tests.{ne_eqb, eq-eqb, eqb-true}
 use borrow.Rule.Slice.PartMut.{put_mid}
 use Rattle.std.specs.List.{sum_by}
 use Rattle.std.proofs.lemmas.List.Recursion.{is_sum_by}
@@ -19,9 +19,9 @@ use Rattle.std.proofs.Common.{Option, Some, None}
 use Rattle.std.specs.Option.{MatchOption, option_map_or}
 use Rattle.words.specs.Sets.{pick}
 use Rattle.words.specs.Words.{ones_from, members_from, count, exact, exact_from, reach, zeros, xors, ands, into}
-use Rattle.words.proofs.Cases.{below_or_not}
+use Rattle.words.proofs.Cases.{below_or_not, and_parts}
 use Rattle.words.proofs.BitLaws.{or_zero}
-use Rattle.words.proofs.RowLaws.{count-cons, count_none, count-le, exact-le, exact-is, exact_past, exact_last, exact-append, xors-none, into_twice}
+use Rattle.words.proofs.RowLaws.{count-cons, count_none, count-le, exact-le, exact-is, exact_past, exact_last, exact-append, exact-front, exact-behind, xors-none, into_twice}
 
 -- a slice from a place to its end, as the code takes it
 abbrev pub tail : List ℕ → ℕ → List ℕ
@@ -179,6 +179,23 @@ clear_next {r} {m = m} c q e z = record {
   past = ⊎_elim (λ l. absurd (exact_last r m (omega (arith, c.past)) (e ∙ z))) (λ l. l) (below_or_not m (exact r));
 }
 
+-- four words at once, whose OR is 0
+pub clear-four : {r : List ℕ} {k n : ℕ} → Clear r k n → 4 ≤ n
+    → bit_or (bit_or (bit_or (get_or r (n - 1) 0) (get_or r (n - 2) 0)) (get_or r (n - 3) 0)) (get_or r (n - 4) 0) ≡ 0 → Clear r k (n - 4)
+clear-four {r} {k} {n} c h e =
+    let last = or_none e in
+    let third = or_none last.0 in
+    let first = or_none third.0 in
+    let a : Clear r k (n - 1) = clear_next c (omega arith) refl first.0 in
+    let b : Clear r k (n - 2) = clear_next a (omega arith) refl first.1 in
+    let d : Clear r k (n - 3) = clear_next b (omega arith) refl third.1 in
+    clear_next d (omega arith) refl last.1
+  where
+    or_none : {x y : ℕ} → bit_or x y ≡ 0 → (x ≡ 0) × (y ≡ 0)
+    or_none {x} {y} e =
+        let parts = and_parts (eqb x 0) (eqb y 0) (sym (or_zero x y) ∙ eq-eqb (bit_or x y) 0 e) in
+        (eqb-true x 0 parts.0, eqb-true y 0 parts.1)
+
 pub clear-found : {r : List ℕ} {k n w : ℕ} → Clear r k n → 0 < n → get_or r (n - 1) 0 ≡ w → (w ≡ 0 → ⊥) → n ≡ exact r
 clear-found {r} {n = n} c p e h =
     ⊎_elim (λ l. absurd (h (sym e ∙ exact_past r (n - 1) (omega arith)))) (λ l. omega (arith, c.past)) (below_or_not (exact r) n)
@@ -186,6 +203,12 @@ clear-found {r} {n = n} c p e h =
 -- what follows the first k words tells, unless it is all 0
 exact-drop : (r : List ℕ) (k : ℕ) → exact r ≡ pick (eqb (exact (drop k r)) 0) (exact (take k r)) (length (take k r) + exact (drop k r))
 exact-drop r k = sym (ap exact (take-append-drop k r)) ∙ exact-append (take k r) (drop k r)
+
+-- the words in front have the exact span of all
+pub clear-front : {r : List ℕ} {k n : ℕ} → Clear r k n → exact (take n r) ≡ exact r
+clear-front {r} {n = n} c =
+    let all : exact (take n r ++ drop n r) ≡ exact r = ap exact (take-append-drop n r) in
+    sym (exact-front (take n r) (drop n r) (exact-behind (take n r) (drop n r) (omega (arith, all, c.past, exact-le r, length-take n r)))) ∙ all
 
 pub exact-rest : {r : List ℕ} {k rest : ℕ} → Rest exact r k rest → 0 < rest → k + rest ≡ exact r
 exact-rest {r} {k} {rest} e h =

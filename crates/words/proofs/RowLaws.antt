@@ -199,6 +199,19 @@ exact-cases w ws = go (same_or_not (exact ws) 0) (same_or_not w 0)
     go (inl e) (inr n) = inr (is ∙ rw (eq-eqb (exact ws) 0 e, ne_eqb w 0 n) (omega arith), λ _ z. n z)
     go (inr n) here = inr (is ∙ rw (ne_eqb (exact ws) 0 n) (omega arith), λ e _. n e)
 
+-- a front has the exact span of the row that is 0 behind it; and behind a front in which its exact span lies a row is 0
+pub exact-front : (ws tail : List ℕ) → exact tail ≡ 0 → exact (ws ++ tail) ≡ exact ws
+exact-front ws tail z = exact-append ws tail ∙ rw z
+
+pub exact-behind : (ws tail : List ℕ) → exact (ws ++ tail) ≤ length ws → exact tail ≡ 0
+exact-behind ws tail h = go (exact tail) refl
+  where
+    go : (s : ℕ) → exact tail ≡ s → exact tail ≡ 0
+    go zero e = e
+    go (suc s) e =
+        let beyond : exact (ws ++ tail) ≡ length ws + suc s = exact-append ws tail ∙ rw (e, ne_eqb (suc s) 0 (λ z. omega arith)) in
+        absurd (omega (arith, beyond, h))
+
 pub exact-le : (ws : List ℕ) → exact ws ≤ length ws
 unfolding exact
 exact-le [] = omega arith

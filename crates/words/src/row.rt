@@ -23,12 +23,17 @@ pub fn count_all(words: &[u64]) -> usize
     words.iter().map(|word| count(*word)).sum()
 }
 
-// The exact span: last nonzero word's place plus one, 0 if there is none.
+// The exact span: last nonzero word's place plus one, 0 if there is none. Four words are passed at once while they are all 0:
+// `rposition` goes one by one.
 pub fn exact_span(words: &[u64]) -> usize
     requires { length words.now ≤ 8192 }
     ensures { result ≡ exact words.now }
 {
-    words
+    let mut end = words.len();
+    while 4 <= end && words[end - 1] | words[end - 2] | words[end - 3] | words[end - 4] == 0 {
+        end -= 4;
+    }
+    words[..end]
         .iter()
         .rposition(|word| *word != 0)
         .map_or(0, |last| last + 1)
