@@ -1,4 +1,5 @@
-// A set over its words and keys, which are lent to be read: its check, and the reads. Scans over whole runs, none left early.
+// A set over its words and keys, which are lent to be read: its check, and the reads. Scans over whole runs, none left
+// early but where a wide set's count is wrong.
 ghost use Rattle.std.specs.Prelude.{true, ◌≡◌, ◌≤◌, ◌<◌, IfOk};
 ghost use Rattle.answers.specs.Answers.{truth, answer_of, number_of};
 ghost use Rattle.adaptive_rules.specs.Bytes.{in_range, sound, Sound};
@@ -63,8 +64,10 @@ impl<'a> Lent<'a> {
             return false;
         }
         let count = count_all(self.words);
-        (self.header.count == count)
-            & (self.words[span - 1] != 0)
+        if self.header.count != count {
+            return false;
+        }
+        (self.words[span - 1] != 0)
             & (span <= Header::HOLDS * count)
             & zero_from(self.words, span)
             & zero_from(self.keys, 0)
