@@ -10,7 +10,7 @@ ghost use Rattle.adaptive_index_set.specs.Contract.{bytes_of, lent_bytes, left};
 use crate::storage::Storage;
 use crate::{Header, Lent};
 use answers::Refusal;
-use ascending::search::lookup;
+use ascending::search::{lookup, told};
 use words::row;
 use words::row::count_all;
 
@@ -39,7 +39,7 @@ impl<'a> Checked<'a> {
             keys,
         } = self.lent;
         Ok(match Storage::from(header) {
-            Storage::Sparse(count) => lookup(&keys[..count], index as u32).is_ok(),
+            Storage::Sparse(count) => told(lookup(&keys[..count], index as u32)),
             _ => row::contains(words, index),
         })
     }

@@ -1,7 +1,8 @@
 // Searching ascending elements: `Ok` names the place where an element stands, `Err` the one where it would be put.
-ghost use Rattle.std.specs.Prelude.{◌≡◌, ◌+◌, ◌<◌, ◌^◌};
+ghost use Rattle.std.specs.Prelude.{◌≡◌, ◌+◌, ◌<◌, ◌^◌, Ok};
 ghost use Rattle.words.specs.Sets.{Ascending};
-ghost use Rattle.ascending.specs.Search.{found, place_of, later};
+ghost use Rattle.answers.specs.Answers.{truth, answer_of};
+ghost use Rattle.ascending.specs.Search.{found, place_of, later, told};
 
 use words::number::Number;
 
@@ -34,4 +35,12 @@ fn shifted(found: Result<usize, usize>, start: usize) -> Result<usize, usize>
     found
         .map(|place| start + place)
         .map_err(|place| start + place)
+}
+
+// What a search's answer comes to: whether the element is there.
+#[tactic(auto, unfolding(crate::specs::Search::told, answers::specs::Answers::answer_of, answers::specs::Answers::truth))]
+pub fn told(found: Result<usize, usize>) -> bool
+    ensures { answer_of truth (Ok result) ≡ told found }
+{
+    found.is_ok()
 }

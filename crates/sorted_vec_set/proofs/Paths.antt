@@ -1,5 +1,5 @@
 -- What judging comes to for two sets and three, what calls leave, and what the reads of sound sets answer, path by path: as theorems
--- beside the calls, whose proofs do without them. Assumes nothing.
+-- beside the calls, whose proofs do without all but `contained_answer`. Assumes nothing.
 use mathlib.Core.Path.{◌≡◌, sym, ap, ◌∙◌}
 use mathlib.Core.List.{List, [], ◌∷◌, ◌++◌}
 use Prim.Native.Nat.{ℕ, ◌+◌, ◌-◌, ◌≤◌, ◌<◌}

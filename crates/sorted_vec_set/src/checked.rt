@@ -15,7 +15,7 @@ use answers::Refusal;
 use ascending::merge::merge_count;
 use ascending::merging::{difference, intersection};
 use ascending::scan::equal;
-use ascending::search::lookup;
+use ascending::search::{lookup, told};
 use ascending::shift::{insert_at, remove_at};
 use ascending::store::store;
 
@@ -52,7 +52,7 @@ impl<'a> Checked<'a> {
     pub fn contains(self, element: u64) -> bool
         ensures { answer_of truth (Ok result) ≡ containing element (lent_bytes self.entry.lent) }
     {
-        lookup(self.members(), element).is_ok()
+        told(lookup(self.members(), element))
     }
 
     pub fn intersection_count(self, other: Checked<'_>) -> usize
