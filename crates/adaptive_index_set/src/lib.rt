@@ -19,7 +19,7 @@ pub mod storage;
 pub use crate::lent::Lent;
 
 // Mode 0 is dense, 1 sparse. It stays a number: the calls take headers of every mode, and refuse the others as unsound.
-#[derive(Clone, Copy, Debug, PartialEq, Eq)]
+#[derive(Clone, Copy, Debug, Default, PartialEq, Eq)]
 pub struct Header {
     pub mode: u8,
     pub span: usize,
@@ -38,12 +38,12 @@ impl Header {
 
     pub const HOLDS: usize = 4;
 
-    // An empty set over words and keys of any contents.
+    // An empty set over words and keys of any contents. The header is the default one either way: "mode 0, span 0, count 0".
     #[tactic(auto, unfolding(crate::specs::Contract::left, crate::specs::Contract::judged, crate::specs::Contract::bytes_of, adaptive_rules::specs::Calls::preparing, adaptive_rules::specs::Calls::range, adaptive_rules::specs::Calls::refusal, adaptive_rules::specs::Bytes::encode, adaptive_rules::specs::Bytes::stored, words::specs::Words::words_of, words::specs::Words::flips))]
     pub fn prepare(words: &mut [u64], keys: &mut [u32]) -> Result<Header, Refusal>
         ensures { left (record { mode = 0; span = 0; count = 0 }) result words.new keys.new ≡ preparing words.old keys.old }
     {
-        let header = Header::narrow(0);
+        let header = Header::default();
         if !are_in_range(&[header.over(words, keys)]) {
             return Err(Refusal::Length);
         }

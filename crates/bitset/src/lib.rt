@@ -22,14 +22,14 @@ pub use crate::lent::Lent;
 // The most words a set has.
 pub const WORDS: usize = 8192;
 
-#[derive(Clone, Copy, Debug, PartialEq, Eq)]
+#[derive(Clone, Copy, Debug, Default, PartialEq, Eq)]
 pub struct BitSet {
     pub span: usize,
 }
 
 #[tactic(auto, unfolding(crate::specs::Calls::preparing, crate::specs::Calls::inserting, crate::specs::Calls::toggling, crate::specs::Calls::removing, crate::specs::Calls::clearing, crate::specs::Calls::xoring, crate::specs::Calls::flipping, crate::specs::Calls::flipping_shared, crate::specs::Calls::left, crate::specs::Calls::judged, crate::specs::Calls::in_range, crate::specs::Calls::sound, answers::specs::Answers::number_of))]
 impl BitSet {
-    // An empty set over words of any contents.
+    // An empty set over words of any contents. The header is the default one either way.
     pub fn new(words: &mut [u64]) -> Result<BitSet, Refusal>
         ensures { left alone (record { span = 0 }) result words.new ≡ preparing words.old }
     {
@@ -37,7 +37,7 @@ impl BitSet {
             return Err(Refusal::Length);
         }
         words.fill(0);
-        Ok(BitSet { span: 0 })
+        Ok(BitSet::default())
     }
 
     // The set over its words, to be read.

@@ -20,14 +20,14 @@ pub use crate::lent::Lent;
 // The most elements that a set is lent.
 pub const ELEMENTS: usize = 8192;
 
-#[derive(Clone, Copy, Debug, PartialEq, Eq)]
+#[derive(Clone, Copy, Debug, Default, PartialEq, Eq)]
 pub struct SortedVecSet {
     pub count: usize,
 }
 
 #[tactic(auto, using(crate::proofs::Outcomes::first_sound, crate::proofs::Outcomes::sound_none), unfolding(crate::specs::Calls::preparing, crate::specs::Calls::inserting, crate::specs::Calls::removing, crate::specs::Calls::toggling, crate::specs::Calls::clearing, crate::specs::Calls::singling, crate::specs::Calls::xoring, crate::specs::Calls::taking, crate::specs::Calls::left, crate::specs::Calls::handed, crate::specs::Calls::result, crate::specs::Calls::refused, answers::specs::Answers::number_of))]
 impl SortedVecSet {
-    // An empty set over elements of any contents.
+    // An empty set over elements of any contents. The header is the default one either way.
     pub fn new(elements: &mut [u64]) -> Result<SortedVecSet, Refusal>
         ensures { left alone (record { count = 0 }) result elements.new ≡ preparing elements.old }
     {
@@ -35,7 +35,7 @@ impl SortedVecSet {
             return Err(Refusal::Length);
         }
         elements.fill(0);
-        Ok(SortedVecSet { count: 0 })
+        Ok(SortedVecSet::default())
     }
 
     // The set over its elements, to be read.
