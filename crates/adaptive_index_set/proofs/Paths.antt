@@ -11,7 +11,7 @@ use borrow.Author.Tests.{eq-eqb, ne_eqb, eqb-true, eqb-false, le-leb, lt-leb, le
 use Rattle.words.specs.Sets.{pick, has}
 use Rattle.words.specs.Words as words
 use Rattle.words.specs.Words.{zeros}
-use Rattle.words.proofs.Cases.{and_parts, pick-case}
+use Rattle.words.proofs.Cases.{never, and_parts, pick-case}
 use Rattle.answers.specs.Answers.{Answer, truth}
 use Rattle.adaptive_rules.specs.States.{State, narrow, wide, sparse, members, count, is_narrow}
 use Rattle.adaptive_rules.specs.Bytes.{Bytes, in_range, sound, view, Sound}
@@ -37,6 +37,10 @@ lent_of {b} e =
     let first = and_parts (leb 32 (length b.words)) _ e in
     let second = and_parts (leb (length b.words) 8192) _ first.1 in
     record { least = leb-true _ _ first.0; most = leb-true _ _ second.0; room = leb-true _ _ second.1 }
+
+pub range_out : (b : Bytes) → ((range b).number ≡ 0 → ⊥) → in_range b ≡ false
+unfolding range refusal
+range_out b n = never (in_range b) (λ t. n (rw t))
 
 -- ---- what one set is refused with
 
